@@ -1,0 +1,4 @@
+pub mod Table
+pub mod Form
+pub mod Check
+pub mod Skip
