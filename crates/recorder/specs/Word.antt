@@ -10,6 +10,19 @@ abbrev pub pick {ℓ} : {A : Type ℓ} → Bool → A → A → A
 pick true a b = a
 pick false a b = b
 
+-- one of two readers, at a place: only the one that is chosen is computed
+abbrev pub choose {ℓ} : {A : Type ℓ} → Bool → (ℕ → A) → (ℕ → A) → ℕ → A
+choose true f g p = f p
+choose false f g p = g p
+
+abbrev pub both : Bool → Bool → Bool
+both true b = b
+both false b = false
+
+abbrev pub either : Bool → Bool → Bool
+either true b = true
+either false b = b
+
 -- "A word's top 8 bits are its kind (hexadecimal below), its low 24 its payload."
 abbrev pub kind : ℕ → ℕ
 kind w = w / 16777216
