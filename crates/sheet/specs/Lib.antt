@@ -2,3 +2,4 @@ pub mod Table
 pub mod Form
 pub mod Check
 pub mod Skip
+pub mod Tree

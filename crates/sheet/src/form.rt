@@ -61,19 +61,19 @@ pub enum Walk {
 // What statements of one shape have in common: their fields, and how they are compiled.
 pub enum Shape {
     Rem,
-    Bare,
-    Unary,
+    Op0,
+    Op1,
+    Op2,
+    Op3,
     Draw,
-    Two,
-    Three,
     Set,
     Data,
     Def,
     Dim,
     Field,
     For,
-    Go,
     GoSub,
+    GoTo,
     If,
     Input,
     Let,
@@ -89,7 +89,6 @@ pub enum Shape {
     System,
     While,
     Write,
-    Fseek,
 }
 
 // Where a line's units lie in the text: they begin at base, and are so many.
