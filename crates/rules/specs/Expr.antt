@@ -13,7 +13,7 @@ use Rattle.rules.specs.declared.types.«Type».{«Type» as Ty}
 use Rattle.rules.specs.declared.types.«Type».the-variants.{Integer, Real, String, Error}
 use Rattle.rules.specs.declared.name.Name.{Name}
 use Rattle.rules.specs.Types.{matchesType, exactMatches, rvalueType}
-use Rattle.rules.specs.Name.{readName}
+use Rattle.rules.specs.Name.{textPlace, readName}
 use Rattle.rules.specs.Tables.{Signature, signatureOf, tab, spc, wanted, everyReal}
 
 -- what an expression leaves: the state and its kind
@@ -40,10 +40,10 @@ withSym y f = f (y .number) (y .ty) (y .state)
 -- "a string, prompt or quoted datum stands without its first unit, then without a last quote if one remains; its length is its
 -- units." Starts are in the whole text, where the line begins at `base`.
 abbrev pub quotedStart : ℕ → Range → ℕ
-quotedStart base r = base + r .start + 1
+quotedStart base r = textPlace base (r .start + 1)
 
 abbrev pub endsInQuote : List ℕ → ℕ → Range → Bool
-endsInQuote t base r = both (ltb (r .start + 1) (r .end)) (eqb (getD t (base + r .end - 1) 0) 34)
+endsInQuote t base r = both (ltb (r .start + 1) (r .end)) (eqb (getD t (textPlace base (r .end) - 1) 0) 34)
 
 unfoldable pub quotedLength : List ℕ → ℕ → Range → ℕ
 quotedLength t base r = r .end - r .start - 1 - pick (endsInQuote t base r) 1 0
@@ -51,6 +51,13 @@ quotedLength t base r = r .end - r .start - 1 - pick (endsInQuote t base r) 1 0
 -- the units that a text counts against the 255 of class 8
 abbrev pub textSize : ℕ → ℕ
 textSize n = n
+
+-- compile_binary_expr behind its two sides: Eq, Ne, Gt, Lt, Ge, Le and Add take two of a kind, the others numbers
+abbrev pub isAdd : ℕ → Bool
+isAdd k = eqb k 6
+
+abbrev pub isText : Ty → Bool
+isText x = exactMatches x String
 
 module _ {S : Type 0} (R : Recorder S) (t : List ℕ) (base : ℕ) where
   -- add_error, add_warning
@@ -123,13 +130,6 @@ module _ {S : Type 0} (R : Recorder S) (t : List ℕ) (base : ℕ) where
   abbrev pub userCall : Opt Range → Range → ℕ → S → S
   userCall absent r n s = s
   userCall (given fr) r n s = R .emit s 12 r n 0 0
-
-  -- compile_binary_expr behind its two sides: Eq, Ne, Gt, Lt, Ge, Le and Add take two of a kind, the others numbers
-  abbrev pub isAdd : ℕ → Bool
-  isAdd k = eqb k 6
-
-  abbrev pub isText : Ty → Bool
-  isText x = exactMatches x String
 
   unfoldable pub likeNode : ℕ → Range → Range → Ty → Ty → S → Out S
   likeNode k r o x y s =

@@ -5,3 +5,6 @@ pub mod Expr
 pub mod Stmt
 pub mod Program
 pub mod Outcome
+pub mod Missing
+pub mod Piles
+pub mod Demand

@@ -1,7 +1,7 @@
 -- Reading a name from its units: the first half of compile_sym of compiler.rs.
 use mathlib.Core.List.{List}
 use mathlib.Core.Bool.{Bool, true, false}
-use Prim.Native.Nat.{ℕ, zero, suc, _+_, _-_}
+use Prim.Native.Nat.{ℕ, zero, suc, _+_, _-_, _%_}
 use lib.Dec.{ltb, eqb}
 use lib.ListN.{getD}
 use Rattle.recorder.specs.Word.{pick, either, next}
@@ -9,6 +9,10 @@ use Rattle.recorder.specs.declared.word.Range.{Range}
 use Rattle.rules.specs.declared.types.«Type».{«Type» as Ty}
 use Rattle.rules.specs.declared.name.Name.{Name}
 use Rattle.rules.specs.Types.{sigilUnit, sigilType}
+
+-- "Starts are in the whole text": so many units behind where the line begins, as a word
+abbrev pub textPlace : ℕ → ℕ → ℕ
+textPlace base n = (base + n) % 4294967296
 
 -- a blank cuts a name, a sigil ends it
 abbrev pub endsName : ℕ → Bool
@@ -34,4 +38,4 @@ nameOf t at n ty = record {
 }
 
 unfoldable pub readName : List ℕ → ℕ → Range → Name
-readName t base r = nameOf t (base + r .start) (r .end - r .start) (sigilType (getD t (base + r .end - 1) 0))
+readName t base r = nameOf t (textPlace base (r .start)) (r .end - r .start) (sigilType (getD t (textPlace base (r .end) - 1) 0))

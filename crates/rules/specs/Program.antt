@@ -9,6 +9,7 @@ use Rattle.recorder.specs.Recorder.{Recorder, Look, unpack}
 use Rattle.recorder.specs.Ideal.{Search, missing, found}
 use Rattle.recorder.specs.Marks.{Mark, mark, addrOf, dataOf}
 use Rattle.sheet.specs.Tree.{Opt, absent, given, Labelled, ProgramLine}
+use Rattle.rules.specs.Name.{textPlace}
 use Rattle.rules.specs.Expr.{addError}
 use Rattle.rules.specs.Stmt.{compileStmts}
 
@@ -21,19 +22,26 @@ pub record Lines (S : Type 0) : Type 0 where
   pub base : ℕ
   pub line : ℕ
 
+abbrev pub lastLabel : ℕ → Opt Labelled → ℕ
+lastLabel last absent = last
+lastLabel last (given l) = l .label + 1
+
+abbrev pub marked : Opt Labelled → ℕ → ℕ → List Mark → List Mark
+marked absent addr first ms = ms
+marked (given l) addr first ms = ms ++ (mark (l .label) addr first ∷ [])
+
+-- "After the lines: jumps in order of pending, then RESTOREs". A pending record keeps its label plus 1 in b.
+abbrev pub isPendingJump : Look → Bool
+isPendingJump q = both (ltb 0 (q .b)) (either (eqb (q .call) 20) (eqb (q .call) 21))
+
+abbrev pub isPendingRestore : Look → Bool
+isPendingRestore q = both (ltb 0 (q .b)) (eqb (q .call) 31)
+
 module _ {S : Type 0} (R : Recorder S) (t : List ℕ) where
   -- "1 labels not rising": compared with the last label, a bad one too
   abbrev pub labelNote : ℕ → ℕ → Opt Labelled → S → S
   labelNote base last absent s = s
   labelNote base last (given l) s = pick (ltb (l .label) last) (addError R t base 1 (l .range) s) s
-
-  abbrev pub lastLabel : ℕ → Opt Labelled → ℕ
-  lastLabel last absent = last
-  lastLabel last (given l) = l .label + 1
-
-  abbrev pub marked : Opt Labelled → ℕ → ℕ → List Mark → List Mark
-  marked absent addr first ms = ms
-  marked (given l) addr first ms = ms ++ (mark (l .label) addr first ∷ [])
 
   -- one line: begin_line, its label, its statements
   abbrev pub lineBegun : Lines S → ProgramLine → S
@@ -44,7 +52,7 @@ module _ {S : Type 0} (R : Recorder S) (t : List ℕ) where
     state = s;
     marks = marked (l .label) (R .count (c .state)) (R .firstDatum s) (c .marks);
     last = lastLabel (c .last) (l .label);
-    base = c .base + l .length;
+    base = textPlace (c .base) (l .length);
     line = c .line + 1;
   }
 
@@ -59,13 +67,6 @@ module _ {S : Type 0} (R : Recorder S) (t : List ℕ) where
   firstLine s = record { state = s; marks = []; last = 0; base = 0; line = 0 }
 
 module _ {S : Type 0} (R : Recorder S) where
-  -- "After the lines: jumps in order of pending, then RESTOREs". A pending record keeps its label plus 1 in b.
-  abbrev pub isPendingJump : Look → Bool
-  isPendingJump q = both (ltb 0 (q .b)) (either (eqb (q .call) 20) (eqb (q .call) 21))
-
-  abbrev pub isPendingRestore : Look → Bool
-  isPendingRestore q = both (ltb 0 (q .b)) (eqb (q .call) 31)
-
   -- found: the record gets it; missing: "2 target missing", or "3 RESTORE target missing (warning)"
   abbrev pub settleBy : Search → ℕ → ℕ → ℕ → Look → S → S
   settleBy (found v) class severity k q s = R .settle s k v

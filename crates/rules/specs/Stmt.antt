@@ -11,6 +11,7 @@ use Rattle.sheet.specs.Tree.{Opt, absent, given, Expr, ident, stringLit, number
 use Rattle.rules.specs.declared.types.«Type».{«Type» as Ty}
 use Rattle.rules.specs.declared.types.«Type».the-variants.{Integer, Real, String, Error}
 use Rattle.rules.specs.Types.{matchesType, exactMatches}
+use Rattle.rules.specs.Name.{textPlace}
 use Rattle.rules.specs.Tables.{drawArity, drawn, operand, signatureOf, wanted, everyReal, tab, spc}
 use Rattle.rules.specs.Expr.{Out, out, Sym, after, withSym, quotedStart, quotedLength, textSize, addError, addWarning, compileSym, checkType, checkReal, realSym, noSym, funcName, textNode, elementBy, compileExpr, compileArgs, compileTyped, compileLvalue}
 
@@ -55,7 +56,7 @@ finalByte noByte = absent
 
 -- of an argument of LOAD behind the first: a number literal alone is read, from the text
 abbrev pub byteOf : List ℕ → ℕ → Expr → Opt ℕ
-byteOf t base (numberLit r e m) = finalByte (byteUnits t (base + r .start) (r .end - r .start) fresh)
+byteOf t base (numberLit r e m) = finalByte (byteUnits t (textPlace base (r .start)) (r .end - r .start) fresh)
 byteOf t base (ident r) = absent
 byteOf t base (stringLit r) = absent
 byteOf t base (sysFuncCall r fr k es) = absent
@@ -81,7 +82,7 @@ isIdent (error r) = false
 
 -- "a DATA ... datum": its place in the text
 abbrev pub datumStart : ℕ → Datum → ℕ
-datumStart base d = pick (eqb (d .quoted) 1) (quotedStart base (d .range)) (base + d .range .start)
+datumStart base d = pick (eqb (d .quoted) 1) (quotedStart base (d .range)) (textPlace base (d .range .start))
 
 abbrev pub datumLength : List ℕ → ℕ → Datum → ℕ
 datumLength t base d = pick (eqb (d .quoted) 1) (quotedLength t base (d .range)) (d .range .end - d .range .start)
@@ -108,6 +109,43 @@ abbrev pub isValue : PrintElement → Bool
 isValue (value e) = true
 isValue (comma r) = false
 isValue (semicolon r) = false
+
+abbrev pub stepFlag : Opt Expr → ℕ
+stepFlag absent = 0
+stepFlag (given e) = 1
+
+abbrev pub isFile : InputSource → Bool
+isFile (keyboard p) = false
+isFile (file e) = true
+
+abbrev pub allGiven : Opt ℕ → Bool → Bool
+allGiven absent b = false
+allGiven (given n) b = b
+
+abbrev pub nextRange : ℕ → Range → Range → Range
+nextRange n r v = pick (eqb n 1) r v
+
+-- compile_print: TAB and SPC as an element itself, any other expression, and what follows it
+abbrev pub isTabSpc : Expr → Bool
+isTabSpc (sysFuncCall r fr k es) = either (eqb k tab) (eqb k spc)
+isTabSpc (ident r) = false
+isTabSpc (stringLit r) = false
+isTabSpc (numberLit r e m) = false
+isTabSpc (userFuncCall r f e) = false
+isTabSpc (binary r a o k b) = false
+isTabSpc (unary r k e) = false
+isTabSpc (index r n es) = false
+isTabSpc (inkey r) = false
+isTabSpc (error r) = false
+
+-- compile_write: "11 WRITE value dropped (warning)"
+abbrev pub flagOf : Bool → ℕ
+flagOf true = 1
+flagOf false = 0
+
+abbrev pub isLast : List WriteElement → Bool
+isLast [] = true
+isLast (x ∷ xs) = false
 
 module _ {S : Type 0} (R : Recorder S) (t : List ℕ) (base : ℕ) where
   -- emit_op
@@ -192,10 +230,6 @@ module _ {S : Type 0} (R : Recorder S) (t : List ℕ) (base : ℕ) where
   compileStep absent s = s
   compileStep (given e) s = compileTyped R t base Real e s
 
-  abbrev pub stepFlag : Opt Expr → ℕ
-  stepFlag absent = 0
-  stepFlag (given e) = 1
-
   abbrev pub forNode : Opt Range → Range → ℕ → Opt Expr → S → S
   forNode absent r n e s = s
   forNode (given v) r n e s = R .emit s 23 r n (stepFlag e) 0
@@ -253,10 +287,6 @@ module _ {S : Type 0} (R : Recorder S) (t : List ℕ) (base : ℕ) where
   inputVars isFile none s = s
   inputVars isFile (more e es) s = inputVars isFile es (inputVar isFile e s)
 
-  abbrev pub isFile : InputSource → Bool
-  isFile (keyboard p) = false
-  isFile (file e) = true
-
   abbrev pub inputSource : Range → ℕ → InputSource → S → S
   inputSource r n (keyboard absent) s = R .emit s 32 r 0 n 0
   inputSource r n (keyboard (given p)) s = R .emit (textNode R t base p s) 32 r 1 n 0
@@ -287,17 +317,13 @@ module _ {S : Type 0} (R : Recorder S) (t : List ℕ) (base : ℕ) where
   badBytes none s = s
   badBytes (more e es) s = badBytes es (badByte (byteOf t base e) (exprRange e) s)
 
-  abbrev pub allGiven : Opt ℕ → Bool → Bool
-  allGiven absent b = false
-  allGiven (given n) b = b
-
   unfoldable pub allBytes : Exprs → Bool
   allBytes none = true
   allBytes (more e es) = allGiven (byteOf t base e) (allBytes es)
 
   abbrev pub loadByte : Opt ℕ → Range → S → S
   loadByte absent r s = s
-  loadByte (given b) r s = R .byte s (base + r .start) (r .end - r .start) b
+  loadByte (given b) r s = R .byte s (textPlace base (r .start)) (r .end - r .start) b
 
   unfoldable pub loadBytes : Exprs → S → S
   loadBytes none s = s
@@ -324,9 +350,6 @@ module _ {S : Type 0} (R : Recorder S) (t : List ℕ) (base : ℕ) where
   -- compile_next: "a list of absent NEXT names" is not an empty one
   abbrev pub nextBy : Range → Range → Sym S → S
   nextBy r v y = R .emit (pick (matchesType (y .ty) Real) (y .state) (addError R t base 5 v (y .state))) 24 r (y .number + 1) 0 0
-
-  abbrev pub nextRange : ℕ → Range → Range → Range
-  nextRange n r v = pick (eqb n 1) r v
 
   abbrev pub nextOne : ℕ → Range → Opt Range → S → S
   nextOne n r absent s = s
@@ -360,19 +383,6 @@ module _ {S : Type 0} (R : Recorder S) (t : List ℕ) (base : ℕ) where
 
   unfoldable pub compileOpen : Range → Expr → ℕ → Expr → Opt Len → S → S
   compileOpen r f m e l s = openNode r m l (compileTyped R t base Real e (compileTyped R t base String f s))
-
-  -- compile_print: TAB and SPC as an element itself, any other expression, and what follows it
-  abbrev pub isTabSpc : Expr → Bool
-  isTabSpc (sysFuncCall r fr k es) = either (eqb k tab) (eqb k spc)
-  isTabSpc (ident r) = false
-  isTabSpc (stringLit r) = false
-  isTabSpc (numberLit r e m) = false
-  isTabSpc (userFuncCall r f e) = false
-  isTabSpc (binary r a o k b) = false
-  isTabSpc (unary r k e) = false
-  isTabSpc (index r n es) = false
-  isTabSpc (inkey r) = false
-  isTabSpc (error r) = false
 
   abbrev pub tabCall : Expr → S → S
   tabCall (sysFuncCall r fr k es) s =
@@ -429,15 +439,6 @@ module _ {S : Type 0} (R : Recorder S) (t : List ℕ) (base : ℕ) where
   -- compile_while
   unfoldable pub compileWhile : Range → Expr → S → S
   compileWhile r e s = R .emit (compileTyped R t base Real e s) 25 r (R .count s) unknown 0
-
-  -- compile_write: "11 WRITE value dropped (warning)"
-  abbrev pub flagOf : Bool → ℕ
-  flagOf true = 1
-  flagOf false = 0
-
-  abbrev pub isLast : List WriteElement → Bool
-  isLast [] = true
-  isLast (x ∷ xs) = false
 
   unfoldable pub writeValue : ℕ → WriteElement → Bool → Ty → S → S
   writeValue toFile d last ty s =

@@ -54,7 +54,7 @@ pub fn exact_matches(a: Type, b: Type) -> bool
 }
 
 // The unit that a name of the kind ends in, or 0.
-pub fn sigil(a: Type) -> u16
+pub fn sigil(a: Type) -> u32
     ensures { λ r. ⌜ r ≡ sigilUnit a ⌝ }
 {
     match a {
