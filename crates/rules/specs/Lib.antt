@@ -8,3 +8,4 @@ pub mod Outcome
 pub mod Missing
 pub mod Piles
 pub mod Demand
+pub mod Pairs
