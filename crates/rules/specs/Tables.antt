@@ -7,6 +7,10 @@ use lib.ListN.{length, getD}
 use Rattle.recorder.specs.Word.{pick, both}
 use Rattle.rules.specs.declared.types.«Type».{«Type» as Ty}
 use Rattle.rules.specs.declared.types.«Type».the-variants.{Integer, Real, String, Error}
+use Rattle.rules.specs.declared.tables.Sig.{Sig}
+use Rattle.rules.specs.declared.tables.Sig.the-variants.{RealOfReal, RealOfText, TextOfReal, TextPart, Mid, Point}
+use Rattle.rules.specs.declared.tables.Wants.{Wants}
+use Rattle.rules.specs.declared.tables.Wants.the-variants.{Func, Every, Draw}
 
 -- a function's signature: how many arguments at least, their kinds, and the kind of its value
 pub record Signature : Type 0 where
@@ -109,3 +113,32 @@ drawn k i = pick (ltb i (drawArity k .max)) Real Error
 -- the operands of the statements of one, two and three: numbers, but PLAY's and DEBUGPRINT's, and FPUTC's second
 unfoldable pub operand : ℕ → ℕ → Ty
 operand k i = pick (eqb k 44) String (pick (eqb k 70) String (pick (both (eqb k 66) (eqb i 1)) String Real))
+
+-- the code's names for the six signatures, and for the three ways in which a list of arguments is checked
+abbrev pub signatureFor : Sig → Signature
+signatureFor RealOfReal = realOfReal
+signatureFor RealOfText = realOfText
+signatureFor TextOfReal = textOfReal
+signatureFor TextPart = textPart
+signatureFor Mid = signature 2 (String ∷ Real ∷ Real ∷ []) String
+signatureFor Point = signature 2 (Real ∷ Real ∷ []) Real
+
+abbrev pub sigBy : ℕ → Sig
+sigBy n =
+    pick (eqb n 1) RealOfText
+    (pick (eqb n 2) TextOfReal
+    (pick (eqb n 3) TextPart
+    (pick (eqb n 4) Mid
+    (pick (eqb n 5) Point RealOfReal))))
+
+abbrev pub wantedBy : Wants → ℕ → Ty
+wantedBy (Func k) = wanted (signatureOf k .args)
+wantedBy Every = everyReal
+wantedBy (Draw k) = drawn k
+
+-- so many numbers; a text first; beyond them anything
+abbrev pub realsBelow : ℕ → ℕ → Ty
+realsBelow i n = pick (ltb i n) Real Error
+
+abbrev pub textThenReals : ℕ → ℕ → Ty
+textThenReals i n = pick (eqb i 0) String (realsBelow i n)

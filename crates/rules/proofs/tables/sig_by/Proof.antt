@@ -1,0 +1,32 @@
+use borrow.Author.Tests.{ne-eqb}
+use Rattle.rules.proofs.tables.sig_by.Statement.{statement}
+use Rattle.rules.proofs.tables.sig_by.Tie as tie
+use Rattle.rules.proofs.tables.sig_by.Reads as reads
+use Rattle.rules.proofs.tables.sig_by.Lts as lts
+
+-- src/tables.rt:62:1
+returns : tie.Need-returns
+returns c = rw (c .match .keys1)
+
+-- src/tables.rt:62:1
+returns-2 : tie.Need-returns-2
+returns-2 c = rw (c .match .keys2)
+
+-- src/tables.rt:62:1
+returns-3 : tie.Need-returns-3
+returns-3 c = rw (c .match .keys3)
+
+-- src/tables.rt:62:1
+returns-4 : tie.Need-returns-4
+returns-4 c = rw (c .match .keys4)
+
+-- src/tables.rt:62:1
+returns-5 : tie.Need-returns-5
+returns-5 c = rw (c .match .keys5)
+
+-- src/tables.rt:62:1
+returns-6 : tie.Need-returns-6
+returns-6 c = let q = (c .match .rest) in simp (ne-eqb _ _ (q .0 .0 .0 .0 .1), ne-eqb _ _ (q .0 .0 .0 .1), ne-eqb _ _ (q .0 .0 .1), ne-eqb _ _ (q .0 .1), ne-eqb _ _ (q .1))
+
+pub sig-by-spec : {M : Type 1} → statement M
+sig-by-spec = tie.close (tie.spec returns returns-2 returns-3 returns-4 returns-5 returns-6)
