@@ -5,3 +5,4 @@ pub mod Ideal
 pub mod Marks
 pub mod Closing
 pub mod Layout
+pub mod Mem

@@ -59,6 +59,12 @@ isAdd k = eqb k 6
 abbrev pub isText : Ty → Bool
 isText x = exactMatches x String
 
+abbrev pub likeType : ℕ → Ty → Ty
+likeType k x = pick (isAdd k) (rvalueType x) Real
+
+abbrev pub unlikeType : ℕ → Ty
+unlikeType k = pick (isAdd k) Error Real
+
 module _ {S : Type 0} (R : Recorder S) (t : List ℕ) (base : ℕ) where
   -- add_error, add_warning
   abbrev pub addError : ℕ → Range → S → S
@@ -113,8 +119,11 @@ module _ {S : Type 0} (R : Recorder S) (t : List ℕ) (base : ℕ) where
   unfoldable pub arityNotes : ℕ → Signature → ℕ → Range → S → S
   arityNotes k g n r s = pick (ltb n (g .min)) (addError 6 r s) (pick (ltb (length (g .args)) n) (addError 7 r s) s)
 
+  abbrev pub tabNote : ℕ → Range → S → S
+  tabNote k fr s = pick (either (eqb k tab) (eqb k spc)) (addError 12 fr s) s
+
   unfoldable pub funcNotes : ℕ → ℕ → Range → Range → S → S
-  funcNotes k n fr r s = arityNotes k (signatureOf k) n r (pick (either (eqb k tab) (eqb k spc)) (addError 12 fr s) s)
+  funcNotes k n fr r s = arityNotes k (signatureOf k) n r (tabNote k fr s)
 
   unfoldable pub funcNode : ℕ → ℕ → Range → S → Out S
   funcNode k n r s = out (R .emit s 11 r k n 0) (signatureOf k .result)
@@ -131,11 +140,14 @@ module _ {S : Type 0} (R : Recorder S) (t : List ℕ) (base : ℕ) where
   userCall absent r n s = s
   userCall (given fr) r n s = R .emit s 12 r n 0 0
 
+  abbrev pub likeCall : ℕ → Range → Ty → S → S
+  likeCall k r x s = pick (isText x) (R .emit s 15 r k 0 0) (R .emit s 14 r k 0 0)
+
   unfoldable pub likeNode : ℕ → Range → Range → Ty → Ty → S → Out S
   likeNode k r o x y s =
       pick (matchesType x y)
-      (out (pick (isText x) (R .emit s 15 r k 0 0) (R .emit s 14 r k 0 0)) (pick (isAdd k) (rvalueType x) Real))
-      (out (addError 4 o s) (pick (isAdd k) Error Real))
+      (out (likeCall k r x s) (likeType k x))
+      (out (addError 4 o s) (unlikeType k))
 
   unfoldable pub arithNode : ℕ → Range → Range → Range → Ty → Ty → S → Out S
   arithNode k r ar br x y s = out (R .emit (checkType Real br y (checkType Real ar x s)) 14 r k 0 0) Real
@@ -188,8 +200,11 @@ module _ {S : Type 0} (R : Recorder S) (t : List ℕ) (base : ℕ) where
   indexPlace absent n s = out s Error
   indexPlace (given nr) n s = elementBy 8 nr n (compileSym nr s)
 
+  abbrev pub varPlace : Range → S → Out S
+  varPlace r s = placeBy r (compileSym r s)
+
   unfoldable pub compileLvalue : Expr → S → Out S
-  compileLvalue (ident r) s = placeBy r (compileSym r s)
+  compileLvalue (ident r) s = varPlace r s
   compileLvalue (index r n es) s = indexPlace n (count es) (compileArgs everyReal zero es s)
   compileLvalue (stringLit r) s = out s Error
   compileLvalue (numberLit r e m) s = out s Error

@@ -1,0 +1,2 @@
+// Expressions compiled: the second half of compiler.rs.
+pub mod node;

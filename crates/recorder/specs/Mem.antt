@@ -1,0 +1,274 @@
+-- The memory that is compiled into: three lists of words of fixed lengths, and the counts and flags of St.
+-- A put that does not fit changes no word and sets its buffer's flag, which stays.
+use mathlib.Core.List.{List, [], _∷_, _++_}
+use mathlib.Core.Bool.{Bool, true, false}
+use Prim.Native.Nat.{ℕ, zero, suc, _+_, _*_, _-_, _/_, _%_, min}
+use lib.Dec.{ltb, eqb}
+use lib.ListN.{length, getD, set, take, drop}
+use Rattle.recorder.specs.declared.word.Range.{Range}
+use Rattle.recorder.specs.declared.codegen.St.{St}
+use Rattle.recorder.specs.Word.{pick, both, kind, kindAt, payloadAt, rangeAt, wordOf, rangeWord}
+use Rattle.recorder.specs.Name.{sameName}
+use Rattle.recorder.specs.Ideal.{Rec, rec, noRange, lookOf, firstOf}
+use Rattle.recorder.specs.Recorder.{Recorder, Named, Look, unknown}
+use Rattle.recorder.specs.Closing.{isWhile, isWend, isStart, isEnd, isOne, isFor, isNextOf, roundUp}
+
+pub record Mem : Type 0 where
+  pub list : List ℕ
+  pub notes : List ℕ
+  pub book : List ℕ
+  pub st : St
+
+abbrev pub mem : List ℕ → List ℕ → List ℕ → St → Mem
+mem l n b s = record { list = l; notes = n; book = b; st = s }
+
+-- St with some of its fields anew
+abbrev pub nothing : St
+nothing = record { records = 0; notes = 0; entries = 0; names = 0; datums = 0; bytes = 0; line = 0; first = 0; lfull = false; nfull = false; bfull = false }
+
+-- begin_line: the line that records and notes carry from here on, without a datum so far
+abbrev pub onLine : St → ℕ → St
+onLine s l = record { records = s .records; notes = s .notes; entries = s .entries; names = s .names; datums = s .datums; bytes = s .bytes; line = l; first = 0; lfull = s .lfull; nfull = s .nfull; bfull = s .bfull }
+
+abbrev pub withRecords : St → ℕ → Bool → St
+withRecords s n f = record { records = n; notes = s .notes; entries = s .entries; names = s .names; datums = s .datums; bytes = s .bytes; line = s .line; first = s .first; lfull = f; nfull = s .nfull; bfull = s .bfull }
+
+abbrev pub withNotes : St → ℕ → Bool → St
+withNotes s n f = record { records = s .records; notes = n; entries = s .entries; names = s .names; datums = s .datums; bytes = s .bytes; line = s .line; first = s .first; lfull = s .lfull; nfull = f; bfull = s .bfull }
+
+abbrev pub withEntries : St → ℕ → Bool → St
+withEntries s n f = record { records = s .records; notes = s .notes; entries = n; names = s .names; datums = s .datums; bytes = s .bytes; line = s .line; first = s .first; lfull = s .lfull; nfull = s .nfull; bfull = f }
+
+abbrev pub withNames : St → ℕ → St
+withNames s n = record { records = s .records; notes = s .notes; entries = s .entries; names = n; datums = s .datums; bytes = s .bytes; line = s .line; first = s .first; lfull = s .lfull; nfull = s .nfull; bfull = s .bfull }
+
+abbrev pub withData : St → ℕ → ℕ → St
+withData s n d = record { records = s .records; notes = s .notes; entries = s .entries; names = s .names; datums = n; bytes = s .bytes; line = s .line; first = d; lfull = s .lfull; nfull = s .nfull; bfull = s .bfull }
+
+abbrev pub withBytes : St → ℕ → St
+withBytes s n = record { records = s .records; notes = s .notes; entries = s .entries; names = s .names; datums = s .datums; bytes = n; line = s .line; first = s .first; lfull = s .lfull; nfull = s .nfull; bfull = s .bfull }
+
+-- "List below five words a record, or more than 65,535 records": so many records fit
+abbrev pub listRoom : ℕ → ℕ
+listRoom words = min (words / 5) 65535
+
+-- the number within its kind that an entry gets: the low 24 bits of the count
+abbrev pub low : ℕ → ℕ
+low n = n % 16777216
+
+-- one more, up to the book's room
+unfoldable pub more : ℕ → ℕ → ℕ
+more n room = pick (ltb n room) (n + 1) n
+
+-- a record: five words
+unfoldable pub putList : List ℕ → St → ℕ → ℕ → ℕ → ℕ → ℕ → List ℕ
+putList l s h r a b c = pick (ltb (s .records) (listRoom (length l)))
+    (set (set (set (set (set l (5 * s .records) h) (5 * s .records + 1) r) (5 * s .records + 2) a) (5 * s .records + 3) b) (5 * s .records + 4) c) l
+
+unfoldable pub putSt : List ℕ → St → St
+putSt l s = pick (ltb (s .records) (listRoom (length l))) (withRecords s (s .records + 1) (s .lfull)) (withRecords s (s .records) true)
+
+abbrev pub putRec : List ℕ → St → ℕ → Range → ℕ → ℕ → ℕ → List ℕ
+putRec l s k r a b c = putList l s (wordOf k (s .line)) (rangeWord r) a b c
+
+-- a note, or an entry: four words
+abbrev pub four : List ℕ → ℕ → ℕ → ℕ → ℕ → ℕ → List ℕ
+four l n h x y z = set (set (set (set l (4 * n) h) (4 * n + 1) x) (4 * n + 2) y) (4 * n + 3) z
+
+unfoldable pub noteList : List ℕ → St → ℕ → ℕ → ℕ → List ℕ
+noteList l s h r v = pick (ltb (s .notes) (length l / 4)) (four l (s .notes) h r v 0) l
+
+unfoldable pub noteSt : List ℕ → St → St
+noteSt l s = pick (ltb (s .notes) (length l / 4)) (withNotes s (s .notes + 1) (s .nfull)) (withNotes s (s .notes) true)
+
+unfoldable pub entryList : List ℕ → St → ℕ → ℕ → ℕ → ℕ → List ℕ
+entryList b s h x y z = pick (ltb (s .entries) (length b / 4)) (four b (s .entries) h x y z) b
+
+unfoldable pub entrySt : List ℕ → St → St
+entrySt b s = pick (ltb (s .entries) (length b / 4)) (withEntries s (s .entries + 1) (s .bfull)) (withEntries s (s .entries) true)
+
+-- the first of `left` entries, from the k-th on, that is this name; k + left if none is
+abbrev pub isName : List ℕ → ℕ → ℕ → ℕ → ℕ → ℕ → ℕ → ℕ → Bool
+isName t h a m y x n g = pick (eqb (kind h) 50) (sameName t a m y x n g) false
+
+abbrev pub namedAt : List ℕ → List ℕ → ℕ → ℕ → ℕ → ℕ → Bool
+namedAt t b k x n g = isName t (getD b (4 * k) 0) (getD b (4 * k + 1) 0) (getD b (4 * k + 2) 0) (getD b (4 * k + 3) 0) x n g
+
+unfoldable pub lookup : List ℕ → List ℕ → ℕ → ℕ → ℕ → ℕ → ℕ → ℕ
+lookup t b x n g k zero = k
+lookup t b x n g k (suc left) = pick (namedAt t b k x n g) k (lookup t b x n g (k + 1) left)
+
+-- the entries that the book has
+abbrev pub known : List ℕ → St → ℕ
+known b s = min (s .entries) (length b / 4)
+
+unfoldable pub symbolNumber : List ℕ → List ℕ → St → ℕ → ℕ → ℕ → ℕ
+symbolNumber t b s x n g =
+    pick (ltb (lookup t b x n g 0 (known b s)) (known b s)) (payloadAt b (4 * lookup t b x n g 0 (known b s))) (low (s .names))
+
+unfoldable pub symbolList : List ℕ → List ℕ → St → ℕ → ℕ → ℕ → List ℕ
+symbolList t b s x n g = pick (ltb (lookup t b x n g 0 (known b s)) (known b s)) b (entryList b s (wordOf 50 (low (s .names))) x n g)
+
+unfoldable pub symbolSt : List ℕ → List ℕ → St → ℕ → ℕ → ℕ → St
+symbolSt t b s x n g = pick (ltb (lookup t b x n g 0 (known b s)) (known b s)) s (withNames (entrySt b s) (more (s .names) (length b / 4)))
+
+-- a datum; the line's first datum is set whether it fits or not
+unfoldable pub datumList : List ℕ → St → ℕ → ℕ → ℕ → List ℕ
+datumList b s x n q = entryList b s (wordOf 51 (low (s .datums))) x n q
+
+unfoldable pub datumSt : List ℕ → St → St
+datumSt b s = withData (entrySt b s) (more (s .datums) (length b / 4)) (firstOf (s .first) (low (s .datums)))
+
+unfoldable pub byteList : List ℕ → St → ℕ → ℕ → ℕ → List ℕ
+byteList b s x n v = entryList b s (wordOf 52 (low (s .bytes))) x n v
+
+unfoldable pub byteSt : List ℕ → St → St
+byteSt b s = withBytes (entrySt b s) (more (s .bytes) (length b / 4))
+
+-- an earlier record, written as the part of the list that begins at it
+unfoldable pub part : (List ℕ → List ℕ) → List ℕ → ℕ → List ℕ
+part f l at = take at l ++ f (drop at l)
+
+unfoldable pub atRec : (List ℕ → List ℕ) → List ℕ → ℕ → List ℕ
+atRec f l k = pick (ltb k (length l / 5)) (part f l (5 * k)) l
+
+unfoldable pub onRec : (List ℕ → List ℕ) → List ℕ → St → ℕ → List ℕ
+onRec f l s k = pick (ltb k (s .records)) (atRec f l k) l
+
+abbrev pub setA : ℕ → List ℕ → List ℕ
+setA v p = set p 2 v
+
+abbrev pub setB : ℕ → List ℕ → List ℕ
+setB v p = set p 3 v
+
+abbrev pub setC : ℕ → List ℕ → List ℕ
+setC v p = set p 4 v
+
+-- a pending jump or RESTORE that is settled, and one that loses its label
+abbrev pub clearArgs : List ℕ → List ℕ
+clearArgs p = setC 0 (setB 0 p)
+
+abbrev pub settleArgs : ℕ → List ℕ → List ℕ
+settleArgs v p = clearArgs (setA v p)
+
+-- what the words of a record say
+abbrev pub recOf : List ℕ → ℕ → Rec
+recOf l k = rec (kindAt l (5 * k)) (payloadAt l (5 * k)) (rangeAt l (5 * k + 1)) (getD l (5 * k + 2) 0) (getD l (5 * k + 3) 0) (getD l (5 * k + 4) 0)
+
+abbrev pub lookAt : List ℕ → ℕ → Look
+lookAt l k = lookOf (recOf l k)
+
+-- patch_while_instr: a pass over the records that links the open WHILEs through argument b, each to the one before it, as
+-- address plus 1 or 0; `top` is the last of them. A WEND closes the last.
+abbrev pub linkAt : List ℕ → ℕ → ℕ
+linkAt l w = getD l (5 * w + 3) 0
+
+unfoldable pub whileList : List ℕ → ℕ → ℕ → List ℕ
+whileList l top k =
+    pick (isWhile (recOf l k)) (atRec (setB top) l k)
+    (pick (both (isWend (recOf l k)) (ltb 0 top)) (atRec (setB (k + 1)) l (top - 1)) l)
+
+unfoldable pub whileTop : List ℕ → ℕ → ℕ → ℕ
+whileTop l top k = pick (isWhile (recOf l k)) (k + 1) (pick (both (isWend (recOf l k)) (ltb 0 top)) (linkAt l (top - 1)) top)
+
+unfoldable pub whilesFrom : List ℕ → ℕ → ℕ → ℕ → List ℕ
+whilesFrom l top k zero = l
+whilesFrom l top k (suc left) = whilesFrom (whileList l top k) (whileTop l top k) (k + 1) left
+
+unfoldable pub topFrom : List ℕ → ℕ → ℕ → ℕ → ℕ
+topFrom l top k zero = top
+topFrom l top k (suc left) = topFrom (whileList l top k) (whileTop l top k) (k + 1) left
+
+-- then the WHILEs that are still open, the last first: their end is not known, and each has a note
+pub record Passed : Type 0 where
+  pub list : List ℕ
+  pub notes : List ℕ
+  pub st : St
+
+abbrev pub passed : List ℕ → List ℕ → St → Passed
+passed l n s = record { list = l; notes = n; st = s }
+
+abbrev pub openStep : Passed → ℕ → Passed
+openStep p w =
+    passed (atRec (setB unknown) (p .list) w)
+    (noteList (p .notes) (p .st) (wordOf 13 (getD (p .list) (5 * w) 0)) (getD (p .list) (5 * w + 1) 0) 1)
+    (noteSt (p .notes) (p .st))
+
+unfoldable pub openFrom : Passed → ℕ → ℕ → Passed
+openFrom p top zero = p
+openFrom p top (suc left) = pick (eqb top 0) p (openFrom (openStep p (top - 1)) (linkAt (p .list) (top - 1)) left)
+
+-- the records that the list has
+abbrev pub present : List ℕ → St → ℕ
+present l s = min (s .records) (listRoom (length l))
+
+unfoldable pub patchWhiles : List ℕ → List ℕ → St → Passed
+patchWhiles l n s = openFrom (passed (whilesFrom l 0 0 (present l s)) n s) (topFrom l 0 0 (present l s)) (present l s)
+
+-- convert_for_loop_to_sleep: a record anew but for its line and its range
+abbrev pub rewrite : ℕ → ℕ → ℕ → ℕ → List ℕ → List ℕ
+rewrite k a b c p = setC c (setB b (setA a (set p 0 (wordOf k (getD p 0 0)))))
+
+abbrev pub noOpAt : List ℕ → ℕ → List ℕ
+noOpAt l k = atRec (rewrite 1 0 0 0) l k
+
+abbrev pub sleepAt : List ℕ → ℕ → List ℕ
+sleepAt l k = atRec (rewrite 2 65 1 0) l k
+
+unfoldable pub wholeAt : List ℕ → ℕ → List ℕ
+wholeAt l k = pick (eqb (recOf l k .call) 3) (atRec (rewrite 3 (roundUp (recOf l k .a) (recOf l k .b) .e) (roundUp (recOf l k .a) (recOf l k .b) .m) 0) l k) l
+
+unfoldable pub delayAt : List ℕ → ℕ → Bool
+delayAt l k = both (isStart (recOf l k)) (both (isEnd (recOf l (k + 1))) (both (isFor 0 (recOf l (k + 2))) (isNextOf (recOf l (k + 2)) (recOf l (k + 3)))))
+
+unfoldable pub steppedAt : List ℕ → ℕ → Bool
+steppedAt l k =
+    both (isStart (recOf l k)) (both (isEnd (recOf l (k + 1))) (both (isOne (recOf l (k + 2)))
+    (both (isFor 1 (recOf l (k + 3))) (isNextOf (recOf l (k + 3)) (recOf l (k + 4))))))
+
+unfoldable pub delayedAt : List ℕ → ℕ → List ℕ
+delayedAt l k = noOpAt (sleepAt (wholeAt (noOpAt l k) (k + 1)) (k + 2)) (k + 3)
+
+unfoldable pub steppedDelayedAt : List ℕ → ℕ → List ℕ
+steppedDelayedAt l k = noOpAt (sleepAt (noOpAt (wholeAt (noOpAt l k) (k + 1)) (k + 2)) (k + 3)) (k + 4)
+
+unfoldable pub delayList : List ℕ → ℕ → List ℕ
+delayList l k = pick (delayAt l k) (delayedAt l k) (pick (steppedAt l k) (steppedDelayedAt l k) l)
+
+unfoldable pub delaysFrom : List ℕ → ℕ → ℕ → List ℕ
+delaysFrom l k zero = l
+delaysFrom l k (suc left) = delaysFrom (delayList l k) (k + 1) left
+
+unfoldable pub convertDelays : List ℕ → St → List ℕ
+convertDelays l s = delaysFrom l 0 (present l s)
+
+-- clean_up
+abbrev pub finish : Passed → Passed
+finish p = passed (putRec (convertDelays (p .list) (p .st)) (p .st) 2 noRange 17 0 0) (p .notes) (putSt (convertDelays (p .list) (p .st)) (p .st))
+
+unfoldable pub cleanUpAll : List ℕ → List ℕ → St → Passed
+cleanUpAll l n s = finish (patchWhiles l n s)
+
+-- the memory's recorder
+abbrev pub memR : List ℕ → Recorder Mem
+memR t = record {
+  beginLine = λ m l. mem (m .list) (m .notes) (m .book) (onLine (m .st) l);
+  emit = λ m k r a b c. mem (putRec (m .list) (m .st) k r a b c) (m .notes) (m .book) (putSt (m .list) (m .st));
+  count = λ m. m .st .records;
+  note = λ m k r v. mem (m .list) (noteList (m .notes) (m .st) (wordOf k (m .st .line)) (rangeWord r) v) (m .book) (noteSt (m .notes) (m .st));
+  noteAt = λ m l k r v. mem (m .list) (noteList (m .notes) (m .st) (wordOf k l) (rangeWord r) v) (m .book) (noteSt (m .notes) (m .st));
+  symbol = λ m x n g. record {
+    state = mem (m .list) (m .notes) (symbolList t (m .book) (m .st) x n g) (symbolSt t (m .book) (m .st) x n g);
+    number = symbolNumber t (m .book) (m .st) x n g;
+  };
+  datum = λ m x n q. mem (m .list) (m .notes) (datumList (m .book) (m .st) x n q) (datumSt (m .book) (m .st));
+  firstDatum = λ m. m .st .first;
+  byte = λ m x n v. mem (m .list) (m .notes) (byteList (m .book) (m .st) x n v) (byteSt (m .book) (m .st));
+  nextByte = λ m. low (m .st .bytes);
+  patch = λ m k v. mem (onRec (setA v) (m .list) (m .st) k) (m .notes) (m .book) (m .st);
+  patchEnd = λ m k v. mem (onRec (setC v) (m .list) (m .st) k) (m .notes) (m .book) (m .st);
+  look = λ m k. lookAt (m .list) k;
+  settle = λ m k v. mem (onRec (settleArgs v) (m .list) (m .st) k) (m .notes) (m .book) (m .st);
+  unsettle = λ m k. mem (onRec clearArgs (m .list) (m .st) k) (m .notes) (m .book) (m .st);
+  cleanUp = λ m. mem (cleanUpAll (m .list) (m .notes) (m .st) .list) (cleanUpAll (m .list) (m .notes) (m .st) .notes) (m .book) (cleanUpAll (m .list) (m .notes) (m .st) .st);
+}

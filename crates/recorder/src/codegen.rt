@@ -1,0 +1,863 @@
+// The recorder of codegen.rs, over lent words: records in the list, notes, entries in the book.
+// What does not fit changes no word and sets its buffer's flag, which stays.
+use crate::label::Addr;
+use crate::label::DatumIndex;
+use crate::word::Range;
+use crate::word::behind_unit;
+use crate::word::kind_at;
+use crate::word::kind_of;
+use crate::word::payload_at;
+use crate::word::range_word;
+use crate::word::unit_at;
+use crate::word::word_at;
+use crate::word::word_of;
+ghost use mathlib.Core.Path.{_≡_};
+ghost use Prim.Native.Nat.{_+_, _*_, _/_, _%_, min};
+ghost use lib.Dec.{ltb};
+ghost use lib.ListN.{length, getD, set, replicate};
+ghost use Rattle.recorder.specs.Word.{pick, wordOf, rangeWord};
+ghost use Rattle.recorder.specs.Name.{upper, sameUnits, sameName};
+ghost use Rattle.recorder.specs.Ideal.{firstOf};
+ghost use Rattle.recorder.specs.Mem.{nothing, onLine, withRecords, withNotes, withEntries, withNames, withData, withBytes, listRoom, four, low, more, putList, putSt, putRec, noteList, noteSt, entryList, entrySt, isName, lookup, symbolNumber, symbolList, symbolSt, datumList, datumSt, byteList, byteSt, onRec, setA, setB, setC, settleArgs, clearArgs, lookAt};
+
+// The counts, the numbers within the book's three kinds, the current line with its first datum plus 1 (0 while it has none),
+// and whether something did not fit.
+pub struct St {
+    pub records: u32,
+    pub notes: usize,
+    pub entries: usize,
+    pub names: usize,
+    pub datums: usize,
+    pub bytes: usize,
+    pub line: u32,
+    pub first: u32,
+    pub lfull: bool,
+    pub nfull: bool,
+    pub bfull: bool,
+}
+
+// A symbol: its number among the names.
+pub struct Named {
+    pub st: St,
+    pub number: u32,
+}
+
+// What resolution reads of a record.
+pub struct Looked {
+    pub call: u32,
+    pub line: u32,
+    pub b: u32,
+    pub c: u32,
+}
+
+pub fn new() -> St
+    ensures { λ r. ⌜ r ≡ nothing ⌝ }
+{
+    St {
+        records: 0,
+        notes: 0,
+        entries: 0,
+        names: 0,
+        datums: 0,
+        bytes: 0,
+        line: 0,
+        first: 0,
+        lfull: false,
+        nfull: false,
+        bfull: false,
+    }
+}
+
+pub fn begin_line(st: St, line: u32) -> St
+    ensures { λ r. ⌜ r ≡ onLine st line ⌝ }
+{
+    St {
+        records: st.records,
+        notes: st.notes,
+        entries: st.entries,
+        names: st.names,
+        datums: st.datums,
+        bytes: st.bytes,
+        line,
+        first: 0,
+        lfull: st.lfull,
+        nfull: st.nfull,
+        bfull: st.bfull,
+    }
+}
+
+pub fn with_records(st: St, records: u32, lfull: bool) -> St
+    ensures { λ r. ⌜ r ≡ withRecords st records lfull ⌝ }
+{
+    St {
+        records,
+        notes: st.notes,
+        entries: st.entries,
+        names: st.names,
+        datums: st.datums,
+        bytes: st.bytes,
+        line: st.line,
+        first: st.first,
+        lfull,
+        nfull: st.nfull,
+        bfull: st.bfull,
+    }
+}
+
+pub fn with_notes(st: St, notes: usize, nfull: bool) -> St
+    ensures { λ r. ⌜ r ≡ withNotes st notes nfull ⌝ }
+{
+    St {
+        records: st.records,
+        notes,
+        entries: st.entries,
+        names: st.names,
+        datums: st.datums,
+        bytes: st.bytes,
+        line: st.line,
+        first: st.first,
+        lfull: st.lfull,
+        nfull,
+        bfull: st.bfull,
+    }
+}
+
+pub fn with_entries(st: St, entries: usize, bfull: bool) -> St
+    ensures { λ r. ⌜ r ≡ withEntries st entries bfull ⌝ }
+{
+    St {
+        records: st.records,
+        notes: st.notes,
+        entries,
+        names: st.names,
+        datums: st.datums,
+        bytes: st.bytes,
+        line: st.line,
+        first: st.first,
+        lfull: st.lfull,
+        nfull: st.nfull,
+        bfull,
+    }
+}
+
+pub fn with_names(st: St, names: usize) -> St
+    ensures { λ r. ⌜ r ≡ withNames st names ⌝ }
+{
+    St {
+        records: st.records,
+        notes: st.notes,
+        entries: st.entries,
+        names,
+        datums: st.datums,
+        bytes: st.bytes,
+        line: st.line,
+        first: st.first,
+        lfull: st.lfull,
+        nfull: st.nfull,
+        bfull: st.bfull,
+    }
+}
+
+pub fn with_data(st: St, datums: usize, first: u32) -> St
+    ensures { λ r. ⌜ r ≡ withData st datums first ⌝ }
+{
+    St {
+        records: st.records,
+        notes: st.notes,
+        entries: st.entries,
+        names: st.names,
+        datums,
+        bytes: st.bytes,
+        line: st.line,
+        first,
+        lfull: st.lfull,
+        nfull: st.nfull,
+        bfull: st.bfull,
+    }
+}
+
+pub fn with_bytes(st: St, bytes: usize) -> St
+    ensures { λ r. ⌜ r ≡ withBytes st bytes ⌝ }
+{
+    St {
+        records: st.records,
+        notes: st.notes,
+        entries: st.entries,
+        names: st.names,
+        datums: st.datums,
+        bytes,
+        line: st.line,
+        first: st.first,
+        lfull: st.lfull,
+        nfull: st.nfull,
+        bfull: st.bfull,
+    }
+}
+
+fn least(a: usize, b: usize) -> usize
+    ensures { λ r. ⌜ r ≡ min a b ⌝ }
+{
+    if a < b { a } else { b }
+}
+
+// So many records fit into so many words.
+pub fn list_room(words: usize) -> u32
+    ensures { λ r. ⌜ r ≡ listRoom words ⌝ }
+{
+    let n = words / 5;
+    if n < 65535 { n as u32 } else { 65535 }
+}
+
+fn low_bits(n: usize) -> u32
+    ensures { λ r. ⌜ r ≡ low n ⌝ }
+{
+    (n % 16777216) as u32
+}
+
+fn one_more(n: usize, room: usize) -> usize
+    ensures { λ r. ⌜ r ≡ more n room ⌝ }
+{
+    if n < room { n + 1 } else { n }
+}
+
+// A record: its call, the current line, its range, three arguments.
+pub fn put(list: &mut [u32], st: St, call: u8, r: Range, a: u32, b: u32, c: u32) -> St
+    ensures { λ x. ⌜ (now (list .exit) ≡ putRec (now (list .entry)) st call r a b c) × (x ≡ putSt (now (list .entry)) st) ⌝ }
+{
+    let n = st.records;
+    let full = st.lfull;
+    let h = word_of(call, st.line);
+    let w = range_word(r);
+    if n < list_room(list.len()) {
+        let i = 5 * (n as usize);
+        list[i] = h;
+        list[i + 1] = w;
+        list[i + 2] = a;
+        list[i + 3] = b;
+        list[i + 4] = c;
+        with_records(st, n + 1, full)
+    } else {
+        with_records(st, n, true)
+    }
+}
+
+// The four words of a note or of an entry.
+fn put_four(s: &mut [u32], n: usize, h: u32, x: u32, y: u32, z: u32) -> bool
+    ensures { λ r. ⌜ (now (s .exit) ≡ pick (ltb n (length (now (s .entry)) / 4)) (four (now (s .entry)) n h x y z) (now (s .entry))) × (r ≡ ltb n (length (now (s .entry)) / 4)) ⌝ }
+{
+    if n < s.len() / 4 {
+        let i = 4 * n;
+        s[i] = h;
+        s[i + 1] = x;
+        s[i + 2] = y;
+        s[i + 3] = z;
+        true
+    } else {
+        false
+    }
+}
+
+fn put_note(notes: &mut [u32], st: St, h: u32, w: u32, severity: u32) -> St
+    ensures { λ x. ⌜ (now (notes .exit) ≡ noteList (now (notes .entry)) st h w severity) × (x ≡ noteSt (now (notes .entry)) st) ⌝ }
+{
+    let n = st.notes;
+    let full = st.nfull;
+    if put_four(notes, n, h, w, severity, 0) {
+        with_notes(st, n + 1, full)
+    } else {
+        with_notes(st, n, true)
+    }
+}
+
+// A note on the current line: 1 error or 2 warning.
+pub fn note(notes: &mut [u32], st: St, class: u8, r: Range, severity: u32) -> St
+    ensures { λ x. ⌜ (now (notes .exit) ≡ noteList (now (notes .entry)) st (wordOf class (st .line)) (rangeWord r) severity) × (x ≡ noteSt (now (notes .entry)) st) ⌝ }
+{
+    let h = word_of(class, st.line);
+    let w = range_word(r);
+    put_note(notes, st, h, w, severity)
+}
+
+// A note on a line that is named.
+pub fn note_at(notes: &mut [u32], st: St, line: u32, class: u8, r: Range, severity: u32) -> St
+    ensures { λ x. ⌜ (now (notes .exit) ≡ noteList (now (notes .entry)) st (wordOf class line) (rangeWord r) severity) × (x ≡ noteSt (now (notes .entry)) st) ⌝ }
+{
+    let h = word_of(class, line);
+    let w = range_word(r);
+    put_note(notes, st, h, w, severity)
+}
+
+fn put_entry(book: &mut [u32], st: St, h: u32, x: u32, y: u32, z: u32) -> St
+    ensures { λ r. ⌜ (now (book .exit) ≡ entryList (now (book .entry)) st h x y z) × (r ≡ entrySt (now (book .entry)) st) ⌝ }
+{
+    let n = st.entries;
+    let full = st.bfull;
+    if put_four(book, n, h, x, y, z) {
+        with_entries(st, n + 1, full)
+    } else {
+        with_entries(st, n, true)
+    }
+}
+
+fn raised(x: u16) -> u16
+    ensures { λ r. ⌜ r ≡ upper x ⌝ }
+{
+    if x < 97 {
+        return x;
+    }
+    if 122 < x {
+        return x;
+    }
+    x - 32
+}
+
+fn same_units(text: &[u16], a: usize, b: usize, n: u32) -> bool
+    ensures { λ r. ⌜ r ≡ sameUnits (now (text .entry)) a b n ⌝ }
+{
+    let mut p = a;
+    let mut q = b;
+    let mut left = n;
+    while 0 < left {
+        if raised(unit_at(text, p)) != raised(unit_at(text, q)) {
+            return false;
+        }
+        p = behind_unit(text, p);
+        q = behind_unit(text, q);
+        left -= 1;
+    }
+    true
+}
+
+// Lengths and sigils first: the units are read only where both agree, and the first that differs ends it.
+fn same_name(text: &[u16], a: u32, n: u32, x: u32, b: u32, m: u32, y: u32) -> bool
+    ensures { λ r. ⌜ r ≡ sameName (now (text .entry)) a n x b m y ⌝ }
+{
+    if n != m {
+        return false;
+    }
+    if x != y {
+        return false;
+    }
+    same_units(text, a as usize, b as usize, n)
+}
+
+// Whether the four words of an entry are a name's, and that name is this one.
+fn is_named(text: &[u16], h: u32, a: u32, n: u32, x: u32, start: u32, len: u32, sigil: u32) -> bool
+    ensures { λ r. ⌜ r ≡ isName (now (text .entry)) h a n x start len sigil ⌝ }
+{
+    if kind_of(h) != 50 {
+        return false;
+    }
+    same_name(text, a, n, x, start, len, sigil)
+}
+
+// The first entry that is this name, or how many are known.
+fn find(text: &[u16], book: &[u32], start: u32, len: u32, sigil: u32, entries: usize) -> usize
+    ensures { λ r. ⌜ r ≡ lookup (now (text .entry)) (now (book .entry)) start len sigil 0 (min entries (length (now (book .entry)) / 4)) ⌝ }
+{
+    let mut k: usize = 0;
+    let mut left = least(entries, book.len() / 4);
+    while 0 < left {
+        let i = 4 * k;
+        if is_named(
+            text,
+            word_at(book, i),
+            word_at(book, i + 1),
+            word_at(book, i + 2),
+            word_at(book, i + 3),
+            start,
+            len,
+            sigil,
+        ) {
+            return k;
+        }
+        k += 1;
+        left -= 1;
+    }
+    k
+}
+
+// The symbol of a name, which is put into the book where it is new.
+pub fn make_symbol(
+    text: &[u16],
+    book: &mut [u32],
+    st: St,
+    start: u32,
+    len: u32,
+    sigil: u32,
+) -> Named
+    ensures { λ r. ⌜ (now (book .exit) ≡ symbolList (now (text .entry)) (now (book .entry)) st start len sigil) × (r .st ≡ symbolSt (now (text .entry)) (now (book .entry)) st start len sigil) × (r .number ≡ symbolNumber (now (text .entry)) (now (book .entry)) st start len sigil) ⌝ }
+{
+    let room = book.len() / 4;
+    let k = find(text, book, start, len, sigil, st.entries);
+    if k < least(st.entries, room) {
+        let found = payload_at(book, 4 * k);
+        return Named { st, number: found };
+    }
+    let number = low_bits(st.names);
+    let names = one_more(st.names, room);
+    let s = put_entry(book, st, word_of(50, number), start, len, sigil);
+    let t = with_names(s, names);
+    Named { st: t, number }
+}
+
+fn first_of(first: u32, n: usize) -> u32
+    ensures { λ r. ⌜ r ≡ firstOf first (low n) ⌝ }
+{
+    if first == 0 {
+        (n % 16777216) as u32 + 1
+    } else {
+        first
+    }
+}
+
+// A datum: where it stands in the text, and whether it was quoted.
+pub fn emit_datum(book: &mut [u32], st: St, start: u32, len: u32, quoted: u32) -> St
+    ensures { λ r. ⌜ (now (book .exit) ≡ datumList (now (book .entry)) st start len quoted) × (r ≡ datumSt (now (book .entry)) st) ⌝ }
+{
+    let number = low_bits(st.datums);
+    let datums = one_more(st.datums, book.len() / 4);
+    let first = first_of(st.first, st.datums);
+    let s = put_entry(book, st, word_of(51, number), start, len, quoted);
+    with_data(s, datums, first)
+}
+
+// A byte of a LOAD: its literal and its value.
+pub fn load_byte(book: &mut [u32], st: St, start: u32, len: u32, value: u32) -> St
+    ensures { λ r. ⌜ (now (book .exit) ≡ byteList (now (book .entry)) st start len value) × (r ≡ byteSt (now (book .entry)) st) ⌝ }
+{
+    let number = low_bits(st.bytes);
+    let bytes = one_more(st.bytes, book.len() / 4);
+    let s = put_entry(book, st, word_of(52, number), start, len, value);
+    with_bytes(s, bytes)
+}
+
+// The number that the next byte gets.
+pub fn next_byte(st: St) -> u32
+    ensures { λ r. ⌜ r ≡ low (st .bytes) ⌝ }
+{
+    low_bits(st.bytes)
+}
+
+pub fn current_addr(st: St) -> Addr
+    ensures { λ r. ⌜ r .0 ≡ st .records ⌝ }
+{
+    Addr(st.records)
+}
+
+// A record's arguments, written in the part of the list that begins at the record.
+fn set_a(part: &mut [u32], v: u32)
+    ensures { λ r. ⌜ now (part .exit) ≡ setA v (now (part .entry)) ⌝ }
+{
+    if 2 < part.len() {
+        part[2] = v;
+    }
+}
+
+fn set_b(part: &mut [u32], v: u32)
+    ensures { λ r. ⌜ now (part .exit) ≡ setB v (now (part .entry)) ⌝ }
+{
+    if 3 < part.len() {
+        part[3] = v;
+    }
+}
+
+fn set_c(part: &mut [u32], v: u32)
+    ensures { λ r. ⌜ now (part .exit) ≡ setC v (now (part .entry)) ⌝ }
+{
+    if 4 < part.len() {
+        part[4] = v;
+    }
+}
+
+fn clear_args(part: &mut [u32])
+    ensures { λ r. ⌜ now (part .exit) ≡ clearArgs (now (part .entry)) ⌝ }
+{
+    set_b(part, 0);
+    set_c(part, 0);
+}
+
+fn settle_args(part: &mut [u32], v: u32)
+    ensures { λ r. ⌜ now (part .exit) ≡ settleArgs v (now (part .entry)) ⌝ }
+{
+    set_a(part, v);
+    clear_args(part);
+}
+
+// A jump's target: argument a of the record at an address.
+pub fn patch_jump_addr(list: &mut [u32], st: St, at: Addr, target: Addr)
+    ensures { λ r. ⌜ now (list .exit) ≡ onRec (setA (target .0)) (now (list .entry)) st (at .0) ⌝ }
+{
+    let k = at.0;
+    let v = target.0;
+    if k < st.records {
+        let i = k as usize;
+        if i < list.len() / 5 {
+            let from = 5 * i;
+            set_a(&mut list[from..], v);
+        }
+    }
+}
+
+// A DEF's end: argument c.
+pub fn patch_def_end(list: &mut [u32], st: St, at: Addr, end: Addr)
+    ensures { λ r. ⌜ now (list .exit) ≡ onRec (setC (end .0)) (now (list .entry)) st (at .0) ⌝ }
+{
+    let k = at.0;
+    let v = end.0;
+    if k < st.records {
+        let i = k as usize;
+        if i < list.len() / 5 {
+            let from = 5 * i;
+            set_c(&mut list[from..], v);
+        }
+    }
+}
+
+fn settle_at(list: &mut [u32], st: St, k: u32, v: u32)
+    ensures { λ r. ⌜ now (list .exit) ≡ onRec (settleArgs v) (now (list .entry)) st k ⌝ }
+{
+    if k < st.records {
+        let i = k as usize;
+        if i < list.len() / 5 {
+            let from = 5 * i;
+            settle_args(&mut list[from..], v);
+        }
+    }
+}
+
+// A pending jump that is settled: its target, and its label is gone.
+pub fn settle(list: &mut [u32], st: St, at: Addr, target: Addr)
+    ensures { λ r. ⌜ now (list .exit) ≡ onRec (settleArgs (target .0)) (now (list .entry)) st (at .0) ⌝ }
+{
+    settle_at(list, st, at.0, target.0)
+}
+
+// A pending RESTORE that is settled: its DATA index, and its label is gone.
+pub fn patch_datum_index(list: &mut [u32], st: St, at: Addr, index: DatumIndex)
+    ensures { λ r. ⌜ now (list .exit) ≡ onRec (settleArgs (index .0)) (now (list .entry)) st (at .0) ⌝ }
+{
+    settle_at(list, st, at.0, index.0)
+}
+
+// One whose label is nowhere: only its label is gone.
+pub fn unsettle(list: &mut [u32], st: St, at: Addr)
+    ensures { λ r. ⌜ now (list .exit) ≡ onRec clearArgs (now (list .entry)) st (at .0) ⌝ }
+{
+    let k = at.0;
+    if k < st.records {
+        let i = k as usize;
+        if i < list.len() / 5 {
+            let from = 5 * i;
+            clear_args(&mut list[from..]);
+        }
+    }
+}
+
+// What stands at an address.
+pub fn look(list: &[u32], at: Addr) -> Looked
+    ensures { λ r. ⌜ (r .call ≡ lookAt (now (list .entry)) (at .0) .call) × (r .line ≡ lookAt (now (list .entry)) (at .0) .line) × (r .b ≡ lookAt (now (list .entry)) (at .0) .b) × (r .c ≡ lookAt (now (list .entry)) (at .0) .c) ⌝ }
+{
+    let from = 5 * (at.0 as usize);
+    Looked {
+        call: kind_at(list, from),
+        line: payload_at(list, from),
+        b: word_at(list, from + 3),
+        c: word_at(list, from + 4),
+    }
+}
+
+// Zeros everywhere.
+pub fn clear(s: &mut [u32])
+    ensures { λ r. ⌜ now (s .exit) ≡ replicate (length (now (s .entry))) 0 ⌝ }
+{
+    let mut i = 0;
+    while i < s.len() {
+        s[i] = 0;
+        i += 1;
+    }
+}
+
+// Calls 1 to 47, by document 01's table. A target or an end that is not yet known is all ones. A pending jump or RESTORE keeps its
+// label plus 1 and the packed range of a note; an IF's jump keeps 0 and 0.
+pub fn emit_no_op(list: &mut [u32], st: St, r: Range) -> St
+    ensures { λ x. ⌜ (now (list .exit) ≡ putRec (now (list .entry)) st 1 r 0 0 0) × (x ≡ putSt (now (list .entry)) st) ⌝ }
+{
+    put(list, st, 1, r, 0, 0, 0)
+}
+
+pub fn emit_op(list: &mut [u32], st: St, r: Range, statement: u32, count: u32) -> St
+    ensures { λ x. ⌜ (now (list .exit) ≡ putRec (now (list .entry)) st 2 r statement count 0) × (x ≡ putSt (now (list .entry)) st) ⌝ }
+{
+    put(list, st, 2, r, statement, count, 0)
+}
+
+pub fn emit_number(list: &mut [u32], st: St, r: Range, e: u32, m: u32) -> St
+    ensures { λ x. ⌜ (now (list .exit) ≡ putRec (now (list .entry)) st 3 r e m 0) × (x ≡ putSt (now (list .entry)) st) ⌝ }
+{
+    put(list, st, 3, r, e, m, 0)
+}
+
+pub fn emit_string(list: &mut [u32], st: St, r: Range, start: u32, length: u32) -> St
+    ensures { λ x. ⌜ (now (list .exit) ≡ putRec (now (list .entry)) st 4 r start length 0) × (x ≡ putSt (now (list .entry)) st) ⌝ }
+{
+    put(list, st, 4, r, start, length, 0)
+}
+
+pub fn emit_var(list: &mut [u32], st: St, r: Range, symbol: u32) -> St
+    ensures { λ x. ⌜ (now (list .exit) ≡ putRec (now (list .entry)) st 5 r symbol 0 0) × (x ≡ putSt (now (list .entry)) st) ⌝ }
+{
+    put(list, st, 5, r, symbol, 0, 0)
+}
+
+pub fn emit_index(list: &mut [u32], st: St, r: Range, symbol: u32, k: u32) -> St
+    ensures { λ x. ⌜ (now (list .exit) ≡ putRec (now (list .entry)) st 6 r symbol k 0) × (x ≡ putSt (now (list .entry)) st) ⌝ }
+{
+    put(list, st, 6, r, symbol, k, 0)
+}
+
+pub fn emit_var_lvalue(list: &mut [u32], st: St, r: Range, symbol: u32) -> St
+    ensures { λ x. ⌜ (now (list .exit) ≡ putRec (now (list .entry)) st 7 r symbol 0 0) × (x ≡ putSt (now (list .entry)) st) ⌝ }
+{
+    put(list, st, 7, r, symbol, 0, 0)
+}
+
+pub fn emit_index_lvalue(list: &mut [u32], st: St, r: Range, symbol: u32, k: u32) -> St
+    ensures { λ x. ⌜ (now (list .exit) ≡ putRec (now (list .entry)) st 8 r symbol k 0) × (x ≡ putSt (now (list .entry)) st) ⌝ }
+{
+    put(list, st, 8, r, symbol, k, 0)
+}
+
+pub fn emit_fn_lvalue(list: &mut [u32], st: St, r: Range, function: u32, argument: u32) -> St
+    ensures { λ x. ⌜ (now (list .exit) ≡ putRec (now (list .entry)) st 9 r function argument 0) × (x ≡ putSt (now (list .entry)) st) ⌝ }
+{
+    put(list, st, 9, r, function, argument, 0)
+}
+
+pub fn emit_inkey(list: &mut [u32], st: St, r: Range) -> St
+    ensures { λ x. ⌜ (now (list .exit) ≡ putRec (now (list .entry)) st 10 r 0 0 0) × (x ≡ putSt (now (list .entry)) st) ⌝ }
+{
+    put(list, st, 10, r, 0, 0, 0)
+}
+
+pub fn emit_sys_func_call(list: &mut [u32], st: St, r: Range, kind: u32, count: u32) -> St
+    ensures { λ x. ⌜ (now (list .exit) ≡ putRec (now (list .entry)) st 11 r kind count 0) × (x ≡ putSt (now (list .entry)) st) ⌝ }
+{
+    put(list, st, 11, r, kind, count, 0)
+}
+
+pub fn emit_user_func_call(list: &mut [u32], st: St, r: Range, symbol: u32) -> St
+    ensures { λ x. ⌜ (now (list .exit) ≡ putRec (now (list .entry)) st 12 r symbol 0 0) × (x ≡ putSt (now (list .entry)) st) ⌝ }
+{
+    put(list, st, 12, r, symbol, 0, 0)
+}
+
+pub fn emit_unary_expr(list: &mut [u32], st: St, r: Range, op: u32) -> St
+    ensures { λ x. ⌜ (now (list .exit) ≡ putRec (now (list .entry)) st 13 r op 0 0) × (x ≡ putSt (now (list .entry)) st) ⌝ }
+{
+    put(list, st, 13, r, op, 0, 0)
+}
+
+pub fn emit_num_binary_expr(list: &mut [u32], st: St, r: Range, op: u32) -> St
+    ensures { λ x. ⌜ (now (list .exit) ≡ putRec (now (list .entry)) st 14 r op 0 0) × (x ≡ putSt (now (list .entry)) st) ⌝ }
+{
+    put(list, st, 14, r, op, 0, 0)
+}
+
+pub fn emit_str_binary_expr(list: &mut [u32], st: St, r: Range, op: u32) -> St
+    ensures { λ x. ⌜ (now (list .exit) ≡ putRec (now (list .entry)) st 15 r op 0 0) × (x ≡ putSt (now (list .entry)) st) ⌝ }
+{
+    put(list, st, 15, r, op, 0, 0)
+}
+
+pub fn emit_assign_int(list: &mut [u32], st: St, r: Range) -> St
+    ensures { λ x. ⌜ (now (list .exit) ≡ putRec (now (list .entry)) st 16 r 0 0 0) × (x ≡ putSt (now (list .entry)) st) ⌝ }
+{
+    put(list, st, 16, r, 0, 0, 0)
+}
+
+pub fn emit_assign_real(list: &mut [u32], st: St, r: Range) -> St
+    ensures { λ x. ⌜ (now (list .exit) ≡ putRec (now (list .entry)) st 17 r 0 0 0) × (x ≡ putSt (now (list .entry)) st) ⌝ }
+{
+    put(list, st, 17, r, 0, 0, 0)
+}
+
+pub fn emit_assign_str(list: &mut [u32], st: St, r: Range) -> St
+    ensures { λ x. ⌜ (now (list .exit) ≡ putRec (now (list .entry)) st 18 r 0 0 0) × (x ≡ putSt (now (list .entry)) st) ⌝ }
+{
+    put(list, st, 18, r, 0, 0, 0)
+}
+
+pub fn emit_jz(list: &mut [u32], st: St, r: Range) -> St
+    ensures { λ x. ⌜ (now (list .exit) ≡ putRec (now (list .entry)) st 19 r 4294967295 0 0) × (x ≡ putSt (now (list .entry)) st) ⌝ }
+{
+    put(list, st, 19, r, 4294967295, 0, 0)
+}
+
+pub fn emit_goto(list: &mut [u32], st: St, r: Range, label: u32, packed: u32) -> St
+    ensures { λ x. ⌜ (now (list .exit) ≡ putRec (now (list .entry)) st 20 r 4294967295 label packed) × (x ≡ putSt (now (list .entry)) st) ⌝ }
+{
+    put(list, st, 20, r, 4294967295, label, packed)
+}
+
+pub fn emit_gosub(list: &mut [u32], st: St, r: Range, label: u32, packed: u32) -> St
+    ensures { λ x. ⌜ (now (list .exit) ≡ putRec (now (list .entry)) st 21 r 4294967295 label packed) × (x ≡ putSt (now (list .entry)) st) ⌝ }
+{
+    put(list, st, 21, r, 4294967295, label, packed)
+}
+
+pub fn emit_on(list: &mut [u32], st: St, r: Range, count: u32) -> St
+    ensures { λ x. ⌜ (now (list .exit) ≡ putRec (now (list .entry)) st 22 r count 0 0) × (x ≡ putSt (now (list .entry)) st) ⌝ }
+{
+    put(list, st, 22, r, count, 0, 0)
+}
+
+pub fn emit_for(list: &mut [u32], st: St, r: Range, symbol: u32, step: u32) -> St
+    ensures { λ x. ⌜ (now (list .exit) ≡ putRec (now (list .entry)) st 23 r symbol step 0) × (x ≡ putSt (now (list .entry)) st) ⌝ }
+{
+    put(list, st, 23, r, symbol, step, 0)
+}
+
+pub fn emit_next(list: &mut [u32], st: St, r: Range, symbol: u32) -> St
+    ensures { λ x. ⌜ (now (list .exit) ≡ putRec (now (list .entry)) st 24 r symbol 0 0) × (x ≡ putSt (now (list .entry)) st) ⌝ }
+{
+    put(list, st, 24, r, symbol, 0, 0)
+}
+
+pub fn emit_while(list: &mut [u32], st: St, r: Range, start: u32) -> St
+    ensures { λ x. ⌜ (now (list .exit) ≡ putRec (now (list .entry)) st 25 r start 4294967295 0) × (x ≡ putSt (now (list .entry)) st) ⌝ }
+{
+    put(list, st, 25, r, start, 4294967295, 0)
+}
+
+pub fn begin_def_fn(list: &mut [u32], st: St, r: Range, name: u32, parameter: u32) -> St
+    ensures { λ x. ⌜ (now (list .exit) ≡ putRec (now (list .entry)) st 26 r name parameter 4294967295) × (x ≡ putSt (now (list .entry)) st) ⌝ }
+{
+    put(list, st, 26, r, name, parameter, 4294967295)
+}
+
+pub fn end_def_fn(list: &mut [u32], st: St, r: Range) -> St
+    ensures { λ x. ⌜ (now (list .exit) ≡ putRec (now (list .entry)) st 27 r 0 0 0) × (x ≡ putSt (now (list .entry)) st) ⌝ }
+{
+    put(list, st, 27, r, 0, 0, 0)
+}
+
+pub fn emit_dim(list: &mut [u32], st: St, r: Range, symbol: u32, k: u32) -> St
+    ensures { λ x. ⌜ (now (list .exit) ≡ putRec (now (list .entry)) st 28 r symbol k 0) × (x ≡ putSt (now (list .entry)) st) ⌝ }
+{
+    put(list, st, 28, r, symbol, k, 0)
+}
+
+pub fn emit_field(list: &mut [u32], st: St, r: Range, count: u32) -> St
+    ensures { λ x. ⌜ (now (list .exit) ≡ putRec (now (list .entry)) st 29 r count 0 0) × (x ≡ putSt (now (list .entry)) st) ⌝ }
+{
+    put(list, st, 29, r, count, 0, 0)
+}
+
+pub fn emit_read(list: &mut [u32], st: St, r: Range) -> St
+    ensures { λ x. ⌜ (now (list .exit) ≡ putRec (now (list .entry)) st 30 r 0 0 0) × (x ≡ putSt (now (list .entry)) st) ⌝ }
+{
+    put(list, st, 30, r, 0, 0, 0)
+}
+
+pub fn emit_restore(list: &mut [u32], st: St, r: Range, label: u32, packed: u32) -> St
+    ensures { λ x. ⌜ (now (list .exit) ≡ putRec (now (list .entry)) st 31 r 0 label packed) × (x ≡ putSt (now (list .entry)) st) ⌝ }
+{
+    put(list, st, 31, r, 0, label, packed)
+}
+
+pub fn emit_keyboard_input(list: &mut [u32], st: St, r: Range, prompt: u32, count: u32) -> St
+    ensures { λ x. ⌜ (now (list .exit) ≡ putRec (now (list .entry)) st 32 r prompt count 0) × (x ≡ putSt (now (list .entry)) st) ⌝ }
+{
+    put(list, st, 32, r, prompt, count, 0)
+}
+
+pub fn emit_file_input(list: &mut [u32], st: St, r: Range, count: u32) -> St
+    ensures { λ x. ⌜ (now (list .exit) ≡ putRec (now (list .entry)) st 33 r count 0 0) × (x ≡ putSt (now (list .entry)) st) ⌝ }
+{
+    put(list, st, 33, r, count, 0, 0)
+}
+
+pub fn emit_open(list: &mut [u32], st: St, r: Range, mode: u32, len: u32) -> St
+    ensures { λ x. ⌜ (now (list .exit) ≡ putRec (now (list .entry)) st 34 r mode len 0) × (x ≡ putSt (now (list .entry)) st) ⌝ }
+{
+    put(list, st, 34, r, mode, len, 0)
+}
+
+pub fn emit_load_bytes(list: &mut [u32], st: St, r: Range, first: u32, count: u32) -> St
+    ensures { λ x. ⌜ (now (list .exit) ≡ putRec (now (list .entry)) st 35 r first count 0) × (x ≡ putSt (now (list .entry)) st) ⌝ }
+{
+    put(list, st, 35, r, first, count, 0)
+}
+
+pub fn emit_set_row(list: &mut [u32], st: St, r: Range) -> St
+    ensures { λ x. ⌜ (now (list .exit) ≡ putRec (now (list .entry)) st 36 r 0 0 0) × (x ≡ putSt (now (list .entry)) st) ⌝ }
+{
+    put(list, st, 36, r, 0, 0, 0)
+}
+
+pub fn emit_set_column(list: &mut [u32], st: St, r: Range) -> St
+    ensures { λ x. ⌜ (now (list .exit) ≡ putRec (now (list .entry)) st 37 r 0 0 0) × (x ≡ putSt (now (list .entry)) st) ⌝ }
+{
+    put(list, st, 37, r, 0, 0, 0)
+}
+
+pub fn emit_print_num(list: &mut [u32], st: St, r: Range) -> St
+    ensures { λ x. ⌜ (now (list .exit) ≡ putRec (now (list .entry)) st 38 r 0 0 0) × (x ≡ putSt (now (list .entry)) st) ⌝ }
+{
+    put(list, st, 38, r, 0, 0, 0)
+}
+
+pub fn emit_print_str(list: &mut [u32], st: St, r: Range) -> St
+    ensures { λ x. ⌜ (now (list .exit) ≡ putRec (now (list .entry)) st 39 r 0 0 0) × (x ≡ putSt (now (list .entry)) st) ⌝ }
+{
+    put(list, st, 39, r, 0, 0, 0)
+}
+
+pub fn emit_print_spc(list: &mut [u32], st: St, r: Range) -> St
+    ensures { λ x. ⌜ (now (list .exit) ≡ putRec (now (list .entry)) st 40 r 0 0 0) × (x ≡ putSt (now (list .entry)) st) ⌝ }
+{
+    put(list, st, 40, r, 0, 0, 0)
+}
+
+pub fn emit_print_tab(list: &mut [u32], st: St, r: Range) -> St
+    ensures { λ x. ⌜ (now (list .exit) ≡ putRec (now (list .entry)) st 41 r 0 0 0) × (x ≡ putSt (now (list .entry)) st) ⌝ }
+{
+    put(list, st, 41, r, 0, 0, 0)
+}
+
+pub fn emit_newline(list: &mut [u32], st: St, r: Range) -> St
+    ensures { λ x. ⌜ (now (list .exit) ≡ putRec (now (list .entry)) st 42 r 0 0 0) × (x ≡ putSt (now (list .entry)) st) ⌝ }
+{
+    put(list, st, 42, r, 0, 0, 0)
+}
+
+pub fn emit_flush(list: &mut [u32], st: St, r: Range) -> St
+    ensures { λ x. ⌜ (now (list .exit) ≡ putRec (now (list .entry)) st 43 r 0 0 0) × (x ≡ putSt (now (list .entry)) st) ⌝ }
+{
+    put(list, st, 43, r, 0, 0, 0)
+}
+
+pub fn emit_write_num(list: &mut [u32], st: St, r: Range, file: u32, end: u32) -> St
+    ensures { λ x. ⌜ (now (list .exit) ≡ putRec (now (list .entry)) st 44 r file end 0) × (x ≡ putSt (now (list .entry)) st) ⌝ }
+{
+    put(list, st, 44, r, file, end, 0)
+}
+
+pub fn emit_write_str(list: &mut [u32], st: St, r: Range, file: u32, end: u32) -> St
+    ensures { λ x. ⌜ (now (list .exit) ≡ putRec (now (list .entry)) st 45 r file end 0) × (x ≡ putSt (now (list .entry)) st) ⌝ }
+{
+    put(list, st, 45, r, file, end, 0)
+}
+
+pub fn emit_pop_num(list: &mut [u32], st: St, r: Range) -> St
+    ensures { λ x. ⌜ (now (list .exit) ≡ putRec (now (list .entry)) st 46 r 0 0 0) × (x ≡ putSt (now (list .entry)) st) ⌝ }
+{
+    put(list, st, 46, r, 0, 0, 0)
+}
+
+pub fn emit_pop_str(list: &mut [u32], st: St, r: Range) -> St
+    ensures { λ x. ⌜ (now (list .exit) ≡ putRec (now (list .entry)) st 47 r 0 0 0) × (x ≡ putSt (now (list .entry)) st) ⌝ }
+{
+    put(list, st, 47, r, 0, 0, 0)
+}
