@@ -3,6 +3,7 @@ use mathlib.Core.Path.{_≡_}
 use mathlib.Core.List.{List}
 use Prim.Native.Nat.{ℕ}
 use Rattle.recorder.specs.declared.word.Range.{Range}
+use Rattle.recorder.specs.Word.{payloadAt, rangeAt, next}
 use Rattle.recorder.specs.Recorder.{Named}
 use Rattle.recorder.specs.Mem.{Mem, memR}
 use Rattle.sheet.specs.declared.form.Sort.the-variants.{Expr as exprSort}
@@ -35,3 +36,13 @@ pub record Compiled (s t : List ℕ) (base left at : ℕ) (m m′ : Mem) (p : �
 pub record CompiledArgs (s t : List ℕ) (base left at n : ℕ) (w : Wants) (m m′ : Mem) (p : ℕ) : Type 0 where
   pub place : p ≡ skipRepeat s (skipNode s left exprSort) n at
   pub result : m′ ≡ compileArgs (memR t) t base (wantedBy w) 0 (exprsAt s (exprAt s left) (skipNode s left exprSort) n at) m
+
+-- an operator or a function, its range and its kind, and the place behind; a count and the place behind
+pub record OpAt (s : List ℕ) (at : ℕ) (r : Range) (k p : ℕ) : Type 0 where
+  pub range : r ≡ rangeAt s at
+  pub kind : k ≡ payloadAt s (next s at)
+  pub place : p ≡ next s (next s at)
+
+pub record CountAt (s : List ℕ) (at n p : ℕ) : Type 0 where
+  pub count : n ≡ payloadAt s at
+  pub place : p ≡ next s at

@@ -1,2 +1,3 @@
 // Expressions compiled: the second half of compiler.rs.
+pub mod expr;
 pub mod node;

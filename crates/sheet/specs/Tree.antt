@@ -1,7 +1,7 @@
 -- The tree that a sheet holds, and how it is read from there. Every reader is total: what the form refuses reads as something.
 use mathlib.Core.List.{List, [], _∷_}
 use mathlib.Core.Bool.{Bool, true, false}
-use Prim.Native.Nat.{ℕ, zero, suc, _+_, _*_}
+use Prim.Native.Nat.{ℕ, zero, suc, _+_, _*_, _%_}
 use lib.Dec.{eqb}
 use lib.ListN.{getD}
 use Rattle.recorder.specs.Word.{pick, payloadAt, next, rangeAt, labelAt}
@@ -160,7 +160,7 @@ shapeOf k = getD shapeTable k Rem
 module _ (s : List ℕ) where
   -- the value of a literal: e, and m from its high and low 16 bits
   abbrev pub mantissaAt : ℕ → ℕ
-  mantissaAt at = payloadAt s at * 65536 + payloadAt s (next s at)
+  mantissaAt at = payloadAt s at % 65536 * 65536 + payloadAt s (next s at) % 65536
 
   abbrev pub optAt : {A : Type 0} → (ℕ → A) → ℕ → Opt A
   optAt f at = choose (isAbsent s at) (λ p. absent) (λ p. given (f p)) at
