@@ -20,9 +20,10 @@ use Rattle.rules.specs.declared.types.«Type».the-variants.{Integer, Real, Str
 use Rattle.rules.specs.declared.tables.Wants.{Wants}
 use Rattle.rules.specs.declared.tables.Wants.the-variants.{Func, Every, Draw}
 use Rattle.rules.specs.Tables.{wantedBy}
-use Rattle.rules.specs.Expr.{Out, out, compileExpr, compileArgs, checkType, varNode, textNode, numberNode, funcNotes, funcNode, funcName, userCall, binaryNode, unaryNode, indexNode}
+use Rattle.rules.specs.Expr.{Out, out, compileExpr, compileArgs, checkType, varNode, textNode, numberNode, funcNotes, funcNode, funcName, userCall, binaryNode, unaryNode, indexNode, indexPlace, varPlace, compileLvalue, compileTyped}
+use Rattle.rules.specs.Stmt.{placeTyped}
 use Rattle.expressions.specs.declared.node.OptRange.{OptRange}
-use Rattle.expressions.specs.Done.{named, optOf, Compiled, CompiledArgs, OpAt, CountAt}
+use Rattle.expressions.specs.Done.{named, optOf, Compiled, CompiledArgs, CompiledTyped, CompiledPlace, PlaceTyped, OpAt, CountAt}
 
 -- a node's case, its range, and the place behind both
 pub record Head (s : List ℕ) (left at k : ℕ) (r : Range) (p : ℕ) : Type 0 where
@@ -209,3 +210,54 @@ pub none-left : (s t : List ℕ) (base left n k at at₀ i : ℕ) (w : Wants) (m
 unfolding exprsAt compileArgs skipRepeat
 none-left s t base left zero k at at₀ i w m m₀ h p q = record { place = p; result = q }
 none-left s t base left (suc n) k at at₀ i w m m₀ h p q = absurd (omega arith)
+
+-- an expression of which a kind is wanted
+pub typed-of : (s t : List ℕ) (base left at : ℕ) (want : Ty) (r : Range) (p : ℕ) (m m1 m2 : Mem) (ty : Ty) → Compiled s t base left at m m1 p ty → r ≡ rangeAt s (next s at)
+    → m2 ≡ checkType (memR t) t base want r ty m1 → CompiledTyped s t base left at want m m2 p
+typed-of s t base left at want r p m m1 m2 ty x hr e = record { place = x .place; result = rw (← x .result, range-of s left at, ← hr, e) }
+
+-- places to store
+pub place-zero : (s t : List ℕ) (base left at : ℕ) (m : Mem) → left ≡ 0 → CompiledPlace s t base left at m m at Error
+unfolding exprAt skipNode compileLvalue
+place-zero s t base left at m e = rw e (record { place = refl; result = refl })
+
+pub place-var : (s t : List ℕ) (base left at k : ℕ) (r : Range) (p : ℕ) (m m1 : Mem) (ty : Ty) → Head s left at k r p → k ≡ 0 → out m1 ty ≡ varPlace (memR t) t base r m
+    → CompiledPlace s t base left at m m1 p ty
+unfolding exprNode compileLvalue skipFields exprFields
+place-var s t base left at k r p m m1 ty h e f = record { place = rw (over s left at k r p h, e); result = rw (node s left at k r p h, e) f }
+
+pub place-index : (s t : List ℕ) (base left at k : ℕ) (r : Range) (p : ℕ) (o : OptRange) (q n q1 q2 : ℕ) (m m1 m2 : Mem) (ty : Ty) → Head s left at k r p → k ≡ 7
+    → optOf o ≡ optAt s (rangeAt s) p → q ≡ next s p → CountAt s q n q1 → CompiledArgs s t base (left - 1) q1 n Every m m1 q2
+    → out m2 ty ≡ indexPlace (memR t) t base (optOf o) n m1 → CompiledPlace s t base left at m m2 q2 ty
+unfolding exprNode compileLvalue skipFields skipField skipTimes skipPair skipItem skipList exprFields
+place-index s t base left at k r p o q n q1 q2 m m1 m2 ty h e ho hq c x f =
+    let count-is : count (exprsAt s (exprAt s (left - 1)) (skipNode s (left - 1) exprSort) n q1) ≡ n = how-many s (exprAt s (left - 1)) (skipNode s (left - 1) exprSort) n q1 in
+    record {
+      place = rw (over s left at k r p h, e, ← hq, ← c .place, ← c .count) (x .place);
+      result = rw (node s left at k r p h, e, ← ho, ← hq, ← c .place, ← c .count, count-is, ← x .result) f;
+    }
+
+-- any other case
+not-place : (s t : List ℕ) (base : ℕ) (f : ℕ → Expr) (g : ℕ → ℕ) (k : ℕ) (r : Range) (p : ℕ) (m : Mem) → (k ≡ 0 → ⊥) → (k ≡ 7 → ⊥)
+    → out m Error ≡ compileLvalue (memR t) t base (exprNode s f g k r p) m
+unfolding exprNode compileLvalue
+not-place s t base f g zero r p m a b = absurd (a refl)
+not-place s t base f g (suc zero) r p m a b = refl
+not-place s t base f g (suc (suc zero)) r p m a b = refl
+not-place s t base f g (suc (suc (suc zero))) r p m a b = refl
+not-place s t base f g (suc (suc (suc (suc zero)))) r p m a b = refl
+not-place s t base f g (suc (suc (suc (suc (suc zero))))) r p m a b = refl
+not-place s t base f g (suc (suc (suc (suc (suc (suc zero)))))) r p m a b = refl
+not-place s t base f g (suc (suc (suc (suc (suc (suc (suc zero))))))) r p m a b = absurd (b refl)
+not-place s t base f g (suc (suc (suc (suc (suc (suc (suc (suc zero)))))))) r p m a b = refl
+not-place s t base f g (suc (suc (suc (suc (suc (suc (suc (suc (suc zero))))))))) r p m a b = refl
+not-place s t base f g (suc (suc (suc (suc (suc (suc (suc (suc (suc (suc k)))))))))) r p m a b = refl
+
+pub place-other : (s t : List ℕ) (base left at k : ℕ) (r : Range) (p q : ℕ) (m : Mem) → Head s left at k r p → (k ≡ 0 → ⊥) → (k ≡ 7 → ⊥) → q ≡ skipNode s left exprSort at
+    → CompiledPlace s t base left at m m q Error
+place-other s t base left at k r p q m h a b e =
+    record { place = e; result = rw (node s left at k r p h) (not-place s t base (exprAt s (left - 1)) (skipNode s (left - 1) exprSort) k r p m a b) }
+
+pub place-typed-of : (s t : List ℕ) (base left at : ℕ) (want : Ty) (r : Range) (p : ℕ) (m m1 m2 : Mem) (ty : Ty) → CompiledPlace s t base left at m m1 p ty → r ≡ rangeAt s (next s at)
+    → m2 ≡ checkType (memR t) t base want r ty m1 → PlaceTyped s t base left at want m m2 p
+place-typed-of s t base left at want r p m m1 m2 ty x hr e = record { place = x .place; result = rw (← x .result, range-of s left at, ← hr, e) }

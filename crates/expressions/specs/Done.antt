@@ -12,7 +12,8 @@ use Rattle.sheet.specs.Tree.{Opt, absent, given, exprAt, exprsAt}
 use Rattle.rules.specs.declared.types.«Type».{«Type» as Ty}
 use Rattle.rules.specs.declared.tables.Wants.{Wants}
 use Rattle.rules.specs.Tables.{wantedBy}
-use Rattle.rules.specs.Expr.{Out, out, Sym, compileExpr, compileArgs}
+use Rattle.rules.specs.Expr.{Out, out, Sym, compileExpr, compileArgs, compileTyped, compileLvalue}
+use Rattle.rules.specs.Stmt.{placeTyped}
 use Rattle.expressions.specs.declared.node.OptRange.{OptRange}
 use Rattle.expressions.specs.declared.node.OptRange.the-variants.{Given, Absent}
 
@@ -46,3 +47,16 @@ pub record OpAt (s : List ℕ) (at : ℕ) (r : Range) (k p : ℕ) : Type 0 where
 pub record CountAt (s : List ℕ) (at n p : ℕ) : Type 0 where
   pub count : n ≡ payloadAt s at
   pub place : p ≡ next s at
+
+-- an expression of which a kind is wanted; a place to store; one of which a kind is wanted
+pub record CompiledTyped (s t : List ℕ) (base left at : ℕ) (want : Ty) (m m′ : Mem) (p : ℕ) : Type 0 where
+  pub place : p ≡ skipNode s left exprSort at
+  pub result : m′ ≡ compileTyped (memR t) t base want (exprAt s left at) m
+
+pub record CompiledPlace (s t : List ℕ) (base left at : ℕ) (m m′ : Mem) (p : ℕ) (ty : Ty) : Type 0 where
+  pub place : p ≡ skipNode s left exprSort at
+  pub result : out m′ ty ≡ compileLvalue (memR t) t base (exprAt s left at) m
+
+pub record PlaceTyped (s t : List ℕ) (base left at : ℕ) (want : Ty) (m m′ : Mem) (p : ℕ) : Type 0 where
+  pub place : p ≡ skipNode s left exprSort at
+  pub result : m′ ≡ placeTyped (memR t) t base want (exprAt s left at) m

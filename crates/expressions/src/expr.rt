@@ -7,7 +7,7 @@ ghost use mathlib.Core.Path.{_≡_};
 ghost use Rattle.recorder.specs.Mem.{mem, memR};
 ghost use Rattle.recorder.specs.Word.{payloadAt, rangeAt, next};
 ghost use Rattle.sheet.specs.Tree.{mantissaAt};
-ghost use Rattle.expressions.specs.Done.{Compiled, CompiledArgs, OpAt, CountAt};
+ghost use Rattle.expressions.specs.Done.{Compiled, CompiledArgs, CompiledTyped, CompiledPlace, PlaceTyped, OpAt, CountAt};
 
 // What an expression leaves: the state, the place behind it, its kind.
 pub struct Done {
@@ -273,4 +273,115 @@ pub fn compile_args(
         more -= 1;
     }
     Went { st: s, at: p }
+}
+
+// An expression of which a kind is wanted.
+pub fn compile_typed(
+    sheet: &[u32],
+    text: &[u16],
+    list: &mut [u32],
+    notes: &mut [u32],
+    book: &mut [u32],
+    st: St,
+    base: u32,
+    at: usize,
+    left: usize,
+    want: Type,
+) -> Went
+    ensures { λ x. ⌜ CompiledTyped (now (sheet .entry)) (now (text .entry)) base left at want (mem (now (list .entry)) (now (notes .entry)) (now (book .entry)) st) (mem (now (list .exit)) (now (notes .exit)) (now (book .exit)) (x .st)) (x .at) ⌝ }
+{
+    let x = compile_expr(sheet, text, list, notes, book, st, base, at, left);
+    let xs = x.st;
+    let xt = x.ty;
+    let r = expr_range(sheet, at);
+    let s = crate::node::check_type(notes, xs, want, r, xt);
+    Went { st: s, at: x.at }
+}
+
+// compile_lvalue: a place to store, which is a variable or an array's element; anything else makes nothing.
+pub fn compile_lvalue(
+    sheet: &[u32],
+    text: &[u16],
+    list: &mut [u32],
+    notes: &mut [u32],
+    book: &mut [u32],
+    st: St,
+    base: u32,
+    at: usize,
+    left: usize,
+) -> Done
+    ensures { λ x. ⌜ CompiledPlace (now (sheet .entry)) (now (text .entry)) base left at (mem (now (list .entry)) (now (notes .entry)) (now (book .entry)) st) (mem (now (list .exit)) (now (notes .exit)) (now (book .exit)) (x .st)) (x .at) (x .ty) ⌝ }
+{
+    if left == 0 {
+        return Done {
+            st,
+            at,
+            ty: Type::Error,
+        };
+    }
+    let k = recorder::word::payload_at(sheet, at);
+    let r = expr_range(sheet, at);
+    let p = recorder::word::behind(sheet, recorder::word::behind(sheet, at));
+    match k {
+        0 => {
+            let x = crate::node::var_place(text, list, notes, book, st, base, r);
+            let xs = x.st;
+            let ty = x.ty;
+            Done { st: xs, at: p, ty }
+        }
+        7 => {
+            let o = crate::node::opt_range_at(sheet, p);
+            let c = count_at(sheet, recorder::word::behind(sheet, p));
+            let x = compile_args(
+                sheet,
+                text,
+                list,
+                notes,
+                book,
+                st,
+                base,
+                c.at,
+                c.count,
+                Wants::Every,
+                left - 1,
+            );
+            let xs = x.st;
+            let z = crate::node::index_place(text, list, notes, book, xs, base, o, c.count);
+            let zs = z.st;
+            let ty = z.ty;
+            Done {
+                st: zs,
+                at: x.at,
+                ty,
+            }
+        }
+        _ => Done {
+            st,
+            at: sheet::expr::skip_expr(sheet, at, left),
+            ty: Type::Error,
+        },
+    }
+}
+
+// A place to store of which a kind is wanted.
+pub fn place_typed(
+    sheet: &[u32],
+    text: &[u16],
+    list: &mut [u32],
+    notes: &mut [u32],
+    book: &mut [u32],
+    st: St,
+    base: u32,
+    at: usize,
+    left: usize,
+    want: Type,
+) -> Went
+    ensures { λ x. ⌜ PlaceTyped (now (sheet .entry)) (now (text .entry)) base left at want (mem (now (list .entry)) (now (notes .entry)) (now (book .entry)) st) (mem (now (list .exit)) (now (notes .exit)) (now (book .exit)) (x .st)) (x .at) ⌝ }
+{
+    let x = compile_lvalue(sheet, text, list, notes, book, st, base, at, left);
+    let xs = x.st;
+    let xt = x.ty;
+    let r = expr_range(sheet, at);
+    let s = crate::node::check_type(notes, xs, want, r, xt);
+    Went { st: s, at: x.at }
 }

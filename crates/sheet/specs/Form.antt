@@ -63,7 +63,11 @@ isSpecial e = either (eqb e 0) (eqb e 256)
 abbrev pub hasUnit : Range → Bool
 hasUnit r = ltb (r .start) (r .end)
 
-module _ (s t : List ℕ) where
+-- 7: "A range with start above end or end above its line's length"
+abbrev pub inLine : Line → Range → Bool
+inLine line r = both (leb (r .start) (r .end)) (leb (r .end) (line .len))
+
+module _ (s : List ℕ) where
   -- a word of the kind k with a payload below n
   unfoldable pub takeWord : ℕ → ℕ → ℕ → Walk
   takeWord k n at = pick (both (eqb (kindAt s at) k) (ltb (payloadAt s at) n)) (Behind (next s at)) (Stops (BadWord at))
@@ -89,54 +93,63 @@ module _ (s t : List ℕ) where
   unfoldable pub numberForm : ℕ → Walk
   numberForm at = then (takeWord 10 257 at) (λ p. then (highForm (payloadAt s at) p) (λ q. lowForm (payloadAt s at) q))
 
-  module _ (line : Line) where
-    -- 7: "A range with start above end or end above its line's length"
-    abbrev pub inLine : Range → Bool
-    inLine r = both (leb (r .start) (r .end)) (leb (r .end) (line .len))
+  -- a node's head: its kind, and a case that may stand there
+  abbrev pub headForm : Sort → ℕ → Walk
+  headForm c at = pick (both (eqb (kindAt s at) (nodeKind c)) (mayStand c (payloadAt s at))) (Behind (next s at)) (Stops (BadWord at))
 
+  abbrev pub fseekForm : Sort → ℕ → ℕ → Walk
+  fseekForm c at p = pick (isFseek c (payloadAt s at)) (Stops (Fseek at)) (Behind p)
+
+  module _ (line : Line) where
     unfoldable pub rangeForm : ℕ → Walk
-    rangeForm at = then (takeWord 1 16777216 at) (λ p. pick (inLine (rangeAt s at)) (Behind p) (Stops (BadRange at)))
+    rangeForm at = then (takeWord 1 16777216 at) (λ p. pick (inLine line (rangeAt s at)) (Behind p) (Stops (BadRange at)))
 
     unfoldable pub textForm : ℕ → Walk
     textForm at = then (rangeForm at) (λ p. pick (hasUnit (rangeAt s at)) (Behind p) (Stops (BadRange at)))
-
-    -- 7: "an ill-formed name"
-    abbrev pub isNameRange : Range → Bool
-    isNameRange r = isName t (line .base + r .start) (r .end - r .start)
-
-    unfoldable pub nameForm : ℕ → Walk
-    nameForm at = then (rangeForm at) (λ p. pick (isNameRange (rangeAt s at)) (Behind p) (Stops (BadRange at)))
 
     -- a datum is its range and whether it is quoted; "Its place is the range word, for a quoted datum too."
     unfoldable pub datumForm : ℕ → Walk
     datumForm at = then (rangeForm at) (λ p. then (takeWord 5 2 p)
         (λ q. pick (both (eqb (payloadAt s p) 1) (pick (hasUnit (rangeAt s at)) false true)) (Stops (BadRange at)) (Behind q)))
 
+    -- "absent, or range and label"
+    unfoldable pub labelForm : ℕ → Walk
+    labelForm at = choose (isAbsent s at) absentForm (λ p. then (rangeForm p) (λ q. takeWord 3 65536 q)) at
+
+module _ (s t : List ℕ) where
+  module _ (line : Line) where
+    -- 7: "an ill-formed name"
+    abbrev pub isNameRange : Range → Bool
+    isNameRange r = isName t (line .base + r .start) (r .end - r .start)
+
+    unfoldable pub nameForm : ℕ → Walk
+    nameForm at = then (rangeForm s line at) (λ p. pick (isNameRange (rangeAt s at)) (Behind p) (Stops (BadRange at)))
+
     -- "07 input source: 0 keyboard, 1 keyboard and a prompt range, 2 file and an expression"
     abbrev pub sourceRest : (Sort → ℕ → Walk) → ℕ → ℕ → Walk
     sourceRest child zero p = Behind p
-    sourceRest child (suc zero) p = textForm p
+    sourceRest child (suc zero) p = textForm s line p
     sourceRest child (suc (suc n)) p = child Expr p
 
     -- "08 print element: 0, 1, 2 in PrintElement's order": an expression, a comma's range, a semicolon's
     abbrev pub elementRest : (Sort → ℕ → Walk) → ℕ → ℕ → Walk
     elementRest child zero p = child Expr p
-    elementRest child (suc n) p = rangeForm p
+    elementRest child (suc n) p = rangeForm s line p
 
     -- an item, where `child` reads the statements and expressions below
     unfoldable pub itemForm : (Sort → ℕ → Walk) → Item → ℕ → Walk
     itemForm child Nothing at = Behind at
-    itemForm child (Word k n) at = takeWord k n at
-    itemForm child range at = rangeForm at
+    itemForm child (Word k n) at = takeWord s k n at
+    itemForm child range at = rangeForm s line at
     itemForm child name at = nameForm at
-    itemForm child optionalName at = choose (isAbsent s at) absentForm nameForm at
-    itemForm child text at = textForm at
+    itemForm child optionalName at = choose (isAbsent s at) (absentForm s) nameForm at
+    itemForm child text at = textForm s line at
     itemForm child (Node c) at = child c at
-    itemForm child number at = numberForm at
-    itemForm child optionalLabel at = choose (isAbsent s at) absentForm (takeWord 3 65536) at
-    itemForm child source at = then (takeWord 7 3 at) (λ p. sourceRest child (payloadAt s at) p)
-    itemForm child element at = then (takeWord 8 3 at) (λ p. elementRest child (payloadAt s at) p)
-    itemForm child datum at = datumForm at
+    itemForm child number at = numberForm s at
+    itemForm child optionalLabel at = choose (isAbsent s at) (absentForm s) (takeWord s 3 65536) at
+    itemForm child source at = then (takeWord s 7 3 at) (λ p. sourceRest child (payloadAt s at) p)
+    itemForm child element at = then (takeWord s 8 3 at) (λ p. elementRest child (payloadAt s at) p)
+    itemForm child datum at = datumForm s line at
 
     -- "An option is absent or its value, a list a count and its items"
     unfoldable pub pairForm : (Sort → ℕ → Walk) → Item → Item → ℕ → Walk
@@ -147,14 +160,14 @@ module _ (s t : List ℕ) where
     repeatForm f (suc n) at = then (f at) (λ p. repeatForm f n p)
 
     unfoldable pub listForm : (ℕ → Walk) → ℕ → Walk
-    listForm f at = then (countForm at) (λ p. repeatForm f (payloadAt s at) p)
+    listForm f at = then (countForm s at) (λ p. repeatForm f (payloadAt s at) p)
 
     unfoldable pub timesForm : Times → (ℕ → Walk) → ℕ → Walk
     timesForm Once f at = f at
-    timesForm Optional f at = choose (isAbsent s at) absentForm f at
+    timesForm Optional f at = choose (isAbsent s at) (absentForm s) f at
     timesForm Listed f at = listForm f at
-    timesForm NonEmpty f at = then (nonEmptyForm at) (λ p. listForm f at)
-    timesForm OptionalList f at = choose (isAbsent s at) absentForm (listForm f) at
+    timesForm NonEmpty f at = then (nonEmptyForm s at) (λ p. listForm f at)
+    timesForm OptionalList f at = choose (isAbsent s at) (absentForm s) (listForm f) at
 
     unfoldable pub fieldForm : (Sort → ℕ → Walk) → Field → ℕ → Walk
     fieldForm child f at = timesForm (f .times) (pairForm child (f .first) (f .second)) at
@@ -163,12 +176,6 @@ module _ (s t : List ℕ) where
     fieldsForm child [] at = Behind at
     fieldsForm child (f ∷ fs) at = then (fieldForm child f at) (λ p. fieldsForm child fs p)
 
-    abbrev pub headForm : Sort → ℕ → Walk
-    headForm c at = pick (both (eqb (kindAt s at) (nodeKind c)) (mayStand c (payloadAt s at))) (Behind (next s at)) (Stops (BadWord at))
-
-    abbrev pub fseekForm : Sort → ℕ → ℕ → Walk
-    fseekForm c at p = pick (isFseek c (payloadAt s at)) (Stops (Fseek at)) (Behind p)
-
     -- what stands behind a node's head word
     unfoldable pub bodyForm : (Sort → ℕ → Walk) → Sort → ℕ → ℕ → Walk
     bodyForm child c k at = then (itemForm child (ownRange c k) at) (λ p. fieldsForm child (fieldsOf c k) p)
@@ -176,8 +183,8 @@ module _ (s t : List ℕ) where
     -- a statement or an expression with `left` depths left, its own among them.
     -- 5: "A statement or expression nested deeper than 64, a line's own statement being depth 1."
     unfoldable pub nodeForm : ℕ → Sort → ℕ → Walk
-    nodeForm zero c at = then (headForm c at) (λ p. Stops (TooDeep at))
-    nodeForm (suc left) c at = then (headForm c at) (λ p. then (fseekForm c at p) (λ q. bodyForm (nodeForm left) c (payloadAt s at) q))
+    nodeForm zero c at = then (headForm s c at) (λ p. Stops (TooDeep at))
+    nodeForm (suc left) c at = then (headForm s c at) (λ p. then (fseekForm s c at p) (λ q. bodyForm (nodeForm left) c (payloadAt s at) q))
 
   -- "Each line: 10 with its length in units (at most 4,095), then absent, or range and label; then a count and the statements."
   abbrev pub lineOf : ℕ → ℕ → Line
@@ -185,14 +192,11 @@ module _ (s t : List ℕ) where
 
   -- 6: "At a line head the line lengths so far pass the text"
   unfoldable pub lineHead : ℕ → ℕ → Walk
-  lineHead base at = then (takeWord 16 4096 at) (λ p. pick (leb (base + payloadAt s at) (length t)) (Behind p) (Stops (BadLength at)))
-
-  unfoldable pub labelForm : Line → ℕ → Walk
-  labelForm line at = choose (isAbsent s at) absentForm (λ p. then (rangeForm line p) (λ q. takeWord 3 65536 q)) at
+  lineHead base at = then (takeWord s 16 4096 at) (λ p. pick (leb (base + payloadAt s at) (length t)) (Behind p) (Stops (BadLength at)))
 
   unfoldable pub lineForm : ℕ → ℕ → Walk
   lineForm base at =
-      then (lineHead base at) (λ p. then (labelForm (lineOf base at) p) (λ q. listForm (lineOf base at) (nodeForm (lineOf base at) 64 Stmt) q))
+      then (lineHead base at) (λ p. then (labelForm s (lineOf base at) p) (λ q. listForm (lineOf base at) (nodeForm (lineOf base at) 64 Stmt) q))
 
   -- 4: "a word left over"; 6: "or after the last word they fall short of it"
   unfoldable pub endForm : ℕ → ℕ → Walk
@@ -204,4 +208,4 @@ module _ (s t : List ℕ) where
 
   -- "0F program: lines."
   unfoldable pub sheetForm : Walk
-  sheetForm = then (takeWord 15 16777216 0) (λ p. linesForm (payloadAt s 0) 0 p)
+  sheetForm = then (takeWord s 15 16777216 0) (λ p. linesForm (payloadAt s 0) 0 p)

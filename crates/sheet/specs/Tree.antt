@@ -9,7 +9,7 @@ use Rattle.recorder.specs.declared.word.Range.{Range}
 use Rattle.sheet.specs.declared.form.Sort.{Sort}
 use Rattle.sheet.specs.declared.form.Sort.the-variants.{Expr as exprSort, Place as placeSort, InputPlace as inputSort, Stmt as stmtSort}
 use Rattle.sheet.specs.declared.form.Shape.{Shape}
-use Rattle.sheet.specs.declared.form.Shape.the-variants.{Rem, Op0, Op1, Op2, Op3, Draw, Set, Data, Def, Dim, Field, For, GoSub, GoTo, If, Input, Let, Load, Locate, Next, On, Open, Print, Read, Restore, Swap, System, While, Write}
+use Rattle.sheet.specs.declared.form.Shape.the-variants.{Rem, NoOp, Op0, Run, Op1, Op2, Op3, Draw, Set, Data, Def, Dim, Field, For, GoSub, GoTo, If, Input, Let, Load, Locate, Next, On, Open, Print, Read, Restore, Swap, System, While, Write}
 use Rattle.sheet.specs.Form.{choose, isAbsent}
 use Rattle.sheet.specs.Skip.{skipNode, skipList, skipSource, skipElement}
 
@@ -149,9 +149,9 @@ shapeTable =
     ∷ GoTo ∷ Op0 ∷ If ∷ Op0 ∷ Input ∷ Op0 ∷ Rem ∷ Let  -- 24 GoTo Graph If InKey Input Inverse Kill Let
     ∷ Draw ∷ Rem ∷ Load ∷ Locate ∷ Set ∷ Rem ∷ Next ∷ Op0  -- 32 Line List Load Locate LSet New Next Normal
     ∷ Op0 ∷ On ∷ Open ∷ Draw ∷ Op1 ∷ Op2 ∷ Op0 ∷ Print  -- 40 NoTrace On Open Paint Play Poke Pop Print
-    ∷ Op2 ∷ Read ∷ Rem ∷ Rem ∷ Restore ∷ Op0 ∷ Set ∷ Op0  -- 48 Put Read Rem Rename Restore Return RSet Run
+    ∷ Op2 ∷ Read ∷ Rem ∷ Rem ∷ Restore ∷ Op0 ∷ Set ∷ Run  -- 48 Put Read Rem Rename Restore Return RSet Run
     ∷ Rem ∷ Rem ∷ Swap ∷ System ∷ Op0 ∷ Op0 ∷ Op0 ∷ While  -- 56 Save Stop Swap System Text Trace Wend While
-    ∷ Write ∷ Op1 ∷ Op2 ∷ Op3 ∷ Op3 ∷ Op2 ∷ Op1 ∷ Rem  -- 64 Write Sleep Fputc Fread Fwrite Fseek DebugPrint NoOp
+    ∷ Write ∷ Op1 ∷ Op2 ∷ Op3 ∷ Op3 ∷ Op2 ∷ Op1 ∷ NoOp  -- 64 Write Sleep Fputc Fread Fwrite Fseek DebugPrint NoOp
     ∷ []
 
 unfoldable pub shapeOf : ℕ → Shape
@@ -271,7 +271,9 @@ module _ (s : List ℕ) where
 
     unfoldable pub stmtNode : Shape → ℕ → Range → ℕ → Stmt
     stmtNode Rem k r p = rem r
+    stmtNode NoOp k r p = rem r
     stmtNode Op0 k r p = op₀ k r
+    stmtNode Run k r p = op₀ k r
     stmtNode Op1 k r p = op₁ k r (exprHere p)
     stmtNode Op2 k r p = op₂ k r (exprHere p) (exprHere (skipExpr p))
     stmtNode Op3 k r p = op₃ k r (exprHere p) (exprHere (skipExpr p)) (exprHere (skipExpr (skipExpr p)))

@@ -74,7 +74,7 @@ compile-expr-below t =
     compile-expr.Pre
 
 abbrev compile-args-Inv-loop : compile-args-lts.InvT-loop
-compile-args-Inv-loop sheet text list₀ notes₀ book₀ base at n wants left s₀ p₀ i₀ more₀ list notes book s p i more =     (i + more ≤ n) × (length list ≡ length list₀) × (length notes ≡ length notes₀) × (length book ≡ length book₀)
+compile-args-Inv-loop sheet text list₀ notes₀ book₀ base at n wants left s₀ p₀ i₀ more₀ list notes book s p i more = (i + more ≤ n) × (length list ≡ length list₀) × (length notes ≡ length notes₀) × (length book ≡ length book₀)
     × (skipRepeat sheet (skipNode sheet left exprSort) more p ≡ skipRepeat sheet (skipNode sheet left exprSort) n at)
     × (compileArgs (memR text) text base (wantedBy wants) i (exprsAt sheet (exprAt sheet left) (skipNode sheet left exprSort) more p) (mem list notes book s) ≡ compileArgs (memR text) text base (wantedBy wants) 0 (exprsAt sheet (exprAt sheet left) (skipNode sheet left exprSort) n at) (mem list₀ notes₀ book₀ s₀))
 
