@@ -110,7 +110,7 @@ abbrev allTests : List Shape → ℕ → Bool
 allTests [] n = true
 allTests (x ∷ xs) n = both (opTest x n) (allTests xs (suc n))
 
-tests-at : (xs : List Shape) (n k m : ℕ) → m ≡ n + k → allTests xs n ≡ true → opTest (getD xs k Rem) m ≡ true
+tests-at : (xs : List Shape) (n k m : ℕ) → m ≡ n + k → allTests xs n ≡ true → opTest (getD xs k NoOp) m ≡ true
 tests-at [] n k m e a = refl
 tests-at (x ∷ xs) n zero m e a = let f : m ≡ n = omega (arith, e) in rw f (both-left (opTest x n) (allTests xs (suc n)) a)
 tests-at (x ∷ xs) n (suc k) m e a = tests-at xs (suc n) k m (omega (arith, e)) (both-right (opTest x n) (allTests xs (suc n)) a)
@@ -158,7 +158,7 @@ fitted [] fs = fs
 fitted (x ∷ xs) [] = fieldsBy x [] ∷ []
 fitted (x ∷ xs) (f ∷ fs) = fieldsBy x f ∷ fitted xs fs
 
-fitted-at : (xs : List Shape) (fs : List (List Field)) (k : ℕ) → fitted xs fs ≡ fs → fieldsBy (getD xs k Rem) (getD fs k []) ≡ getD fs k []
+fitted-at : (xs : List Shape) (fs : List (List Field)) (k : ℕ) → fitted xs fs ≡ fs → fieldsBy (getD xs k NoOp) (getD fs k []) ≡ getD fs k []
 fitted-at [] fs k e = refl
 fitted-at (x ∷ xs) [] k e = let y : _≡_ {A = ℕ} 0 1 = cc in absurd (omega arith)
 fitted-at (x ∷ xs) (f ∷ fs) zero e = cc

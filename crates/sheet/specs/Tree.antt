@@ -155,7 +155,7 @@ shapeTable =
     ∷ []
 
 unfoldable pub shapeOf : ℕ → Shape
-shapeOf k = getD shapeTable k Rem
+shapeOf k = getD shapeTable k NoOp
 
 module _ (s : List ℕ) where
   -- the value of a literal: e, and m from its high and low 16 bits

@@ -1,0 +1,2 @@
+// Statements and lines compiled: the first half of compiler.rs.
+pub mod shape;
