@@ -1,12 +1,12 @@
 -- One law for each way out of a function whose contract is not plain: premises are what its calls ensure, the conclusion is its contract.
 use mathlib.Core.Path.{_≡_, refl, sym, ap, _∙_}
-use mathlib.Core.List.{List, [], _∷_, _++_, append-nil}
+use mathlib.Core.List.{List, [], _++_, append-nil}
 use mathlib.Core.Bool.{Bool, true, false}
-use Prim.Native.Nat.{ℕ, zero, suc, _+_, _*_, _-_, _≤_, _<_, _/_, _%_, min}
-use lib.Dec.{ltb, eqb}
+use Prim.Native.Nat.{ℕ, zero, suc, _+_, _*_, _-_, _≤_, _<_, _/_, _%_}
+use lib.Dec.{ltb}
 use lib.ListN.{length, getD, set, take, drop, replicate, length-set, length-drop, drop-of-length-le}
-use lib.Seq.{take-all, drop-length, set-out}
-use borrow.Author.Tests.{lt-ltb, le-ltb, eq-eqb, ne-eqb, ltb-true, ltb-false}
+use lib.Seq.{take-all, drop-length}
+use borrow.Author.Tests.{lt-ltb, le-ltb, eq-eqb, ne-eqb, ltb-true}
 use borrow.Author.Fill.{fill-more}
 use borrow.Rule.Slice.PartMut.{midOf, putMid}
 use native.Mathlib.Numerals.{sub-one}
@@ -16,7 +16,7 @@ use Rattle.recorder.specs.declared.word.Range.{Range}
 use Rattle.recorder.specs.Word.{pick, kind, payloadAt, wordOf, rangeWord, next}
 use Rattle.recorder.specs.Name.{upper, sameUnits, sameName}
 use Rattle.recorder.specs.Ideal.{firstOf}
-use Rattle.recorder.specs.Mem.{listRoom, putList, putRec, putSt, withRecords, four, more, low, known, isName, namedAt, lookup, symbolNumber, symbolList, symbolSt, entryList, entrySt, noteList, noteSt, withNames, withNotes, withEntries, part, atRec, onRec}
+use Rattle.recorder.specs.Mem.{listRoom, putList, putRec, putSt, withRecords, four, more, low, known, isName, lookup, symbolNumber, symbolList, symbolSt, entryList, entrySt, noteList, noteSt, withNames, withNotes, withEntries, part, atRec, onRec}
 
 -- the units' loop: one turn, a difference, the end
 pub units-step : (t : List ℕ) (p q n p′ q′ x y u v : ℕ) (z : Bool) → 0 < n → sameUnits t p q n ≡ z → x ≡ getD t p 0 → y ≡ getD t q 0 → u ≡ upper x → v ≡ upper y

@@ -2,5 +2,14 @@ pub mod Laws
 pub mod Lift
 pub mod Words
 pub mod Hide
+pub mod MarkLaws
+pub mod MarkSearch
+pub mod ClosingLaws
 pub mod Simulation
 pub mod Sim
+pub mod Change
+pub mod Delays
+pub mod Whiles
+pub mod WhileWords
+pub mod Clean
+pub mod Memory

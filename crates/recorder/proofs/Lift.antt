@@ -1,12 +1,11 @@
 -- What the functions ensure of their own parts, as steps of the memory.
-use mathlib.Core.Path.{_≡_, refl}
+use mathlib.Core.Path.{_≡_}
 use mathlib.Core.List.{List}
 use Prim.Native.Nat.{ℕ}
 use Rattle.recorder.specs.declared.word.Range.{Range}
 use Rattle.recorder.specs.declared.codegen.St.{St}
 use Rattle.recorder.specs.Word.{wordOf, rangeWord}
-use Rattle.recorder.specs.Recorder.{Recorder, Named}
-use Rattle.recorder.specs.Mem.{Mem, mem, memR, onLine, putRec, putSt, noteList, noteSt, symbolList, symbolSt, symbolNumber, datumList, datumSt, byteList, byteSt, onRec, setA, setC, settleArgs, clearArgs, Passed, passed, cleanUpAll}
+use Rattle.recorder.specs.Mem.{mem, memR, onLine, putRec, putSt, noteList, noteSt, symbolList, symbolSt, symbolNumber, datumList, datumSt, byteList, byteSt, onRec, setA, setC, settleArgs, clearArgs, passed, cleanUpAll}
 
 pub line-mem : (t l n b : List ℕ) (s s′ : St) (k : ℕ) → s′ ≡ onLine s k → mem l n b s′ ≡ memR t .beginLine (mem l n b s) k
 line-mem t l n b s s′ k e = rw e

@@ -1,27 +1,25 @@
 -- The memory holds what the rules' recorder says, as far as it fits; and each operation keeps that so.
 use mathlib.Core.Path.{_≡_, refl, sym, ap, _∙_}
-use mathlib.Core.List.{List, [], _∷_, _++_, append-assoc, append-nil}
+use mathlib.Core.List.{List, [], _∷_, _++_, append-assoc}
 use mathlib.Core.Bool.{Bool, true, false}
-use mathlib.Core.Logic.{_⊎_, inl, inr, ⊎-elim}
 use Prim.Native.Nat.{ℕ, zero, suc, _+_, _*_, _-_, _≤_, _<_, _/_, _%_, min}
 use lib.Dec.{ltb, eqb}
 use lib.ListN.{length, getD, set, take, drop, replicate, length-append, length-set, length-take, length-drop}
 use lib.Seq.{getD-at}
 use borrow.Author.Tests.{lt-ltb, le-ltb, ltb-true, ltb-false, ne-eqb}
 use native.Mathlib.Decide.{decLt}
-use native.Mathlib.Numerals.{add-one, add-two, add-three}
+use native.Mathlib.Numerals.{add-one}
 use native.Mathlib.Omega.{arith}
 use Rattle.recorder.specs.declared.word.Range.{Range}
 use Rattle.recorder.specs.declared.codegen.St.{St}
-use Rattle.recorder.specs.Word.{pick, both, kind, payload, payloadAt, wordOf, rangeWord}
+use Rattle.recorder.specs.Word.{pick, both, kind, payloadAt, wordOf, rangeWord}
 use Rattle.recorder.specs.Name.{sameName}
-use Rattle.recorder.specs.Recorder.{Recorder, Named, Look}
-use Rattle.recorder.specs.Ideal.{Rec, rec, Note, noteOf, Entry, entry, Ideal, ideal, idealR, howMany, nextNumber, added, isNamed, Search, missing, found, findName, symbolIn, symbolOf, change, withA, withC, settled, unsettled, noRec, lookOf, firstOf}
+use Rattle.recorder.specs.Ideal.{Rec, rec, noteOf, Entry, entry, Ideal, ideal, idealR, howMany, nextNumber, added, Search, missing, found, findName, symbolIn, symbolOf, change, withA, withC, settled, unsettled, noRec, lookOf, firstOf}
 use Rattle.recorder.specs.Layout.{recWords, noteWords, entryWords, wordsOf, fill}
-use Rattle.recorder.specs.Mem.{Mem, mem, memR, listRoom, low, more, withRecords, withNotes, withEntries, withNames, withData, withBytes, putList, putSt, four, noteList, noteSt, entryList, entrySt, isName, namedAt, lookup, known, symbolNumber, symbolList, symbolSt, datumList, datumSt, byteList, byteSt, part, atRec, onRec, setA, setC, settleArgs, clearArgs, recOf, lookAt}
+use Rattle.recorder.specs.Mem.{Mem, mem, memR, listRoom, low, more, withRecords, withNotes, withEntries, withNames, putList, putSt, four, noteList, noteSt, entryList, entrySt, lookup, known, symbolNumber, symbolList, symbolSt, datumList, datumSt, byteList, byteSt, part, atRec, onRec, setA, setC, settleArgs, clearArgs, recOf, lookAt}
 use Rattle.recorder.proofs.Words.{length-snoc, put5, put4, words-snoc, length-words4, length-words, change-length, change-out, change-words, squash, rec-of}
-use Rattle.recorder.proofs.Hide.{numbered, twice, fresh, hideRec, hide, hide-length, hide-snoc, hide-true, hide-false, hide-at, change-hidden, blind-same, blind-a, blind-c, blind-settled, blind-unsettled, hide-number, hide-numbers, hide-call, hide-line, hide-c, hide-b, freshRec, allFresh, fresh-snoc, fresh-at, fresh-change}
-use Rattle.recorder.proofs.Simulation.{Simulation, Looks, SameLine}
+use Rattle.recorder.proofs.Hide.{fresh, hideRec, hide, hide-length, hide-snoc, hide-true, hide-at, change-hidden, blind-same, blind-a, blind-c, blind-settled, blind-unsettled, hide-number, hide-call, hide-line, hide-c, hide-b, freshRec, allFresh, fresh-snoc, fresh-at, fresh-change}
+use Rattle.recorder.proofs.Simulation.{Looks, SameLine}
 
 never : {A : Type 0} → true ≡ false → A
 never e = absurd (let z : _≡_ {A = ℕ} 0 1 = cc in omega arith)
@@ -71,7 +69,7 @@ pub record Listed (size : ℕ) (is : List Rec) (l : List ℕ) (count : ℕ) (ful
   pub held : Held (listRoom size) (length is) count full
   pub same : full ≡ false → Same size l b is
 
-listed-emit : (size : ℕ) (is : List Rec) (l : List ℕ) (st : St) (i j : Rec) → Listed size is l (st .records) (st .lfull) (st .bfull)
+pub listed-emit : (size : ℕ) (is : List Rec) (l : List ℕ) (st : St) (i j : Rec) → Listed size is l (st .records) (st .lfull) (st .bfull)
     → (st .lfull ≡ false → hideRec (st .bfull) j ≡ hideRec (st .bfull) i)
     → Listed size (is ++ (i ∷ [])) (putList l st (wordOf (j .call) (j .line)) (rangeWord (j .range)) (j .a) (j .b) (j .c))
     (pick (ltb (st .records) (listRoom (length l))) (st .records + 1) (st .records)) (pick (ltb (st .records) (listRoom (length l))) (st .lfull) true) (st .bfull)
@@ -194,7 +192,7 @@ pub record Exact {A : Type 0} (f : A → List ℕ) (size : ℕ) (is : List A) (l
   pub held : Held (size / 4) (length is) count full
   pub same : full ≡ false → l ≡ fill size (wordsOf f is)
 
-exact-put : {A : Type 0} (f : A → List ℕ) → ((x : A) → length (f x) ≡ 4) → (size : ℕ) (is : List A) (l : List ℕ) (n : ℕ) (full : Bool) (x : A) (h a b c : ℕ)
+pub exact-put : {A : Type 0} (f : A → List ℕ) → ((x : A) → length (f x) ≡ 4) → (size : ℕ) (is : List A) (l : List ℕ) (n : ℕ) (full : Bool) (x : A) (h a b c : ℕ)
     → f x ≡ h ∷ a ∷ b ∷ c ∷ [] → Exact f size is l n full
     → Exact f size (is ++ (x ∷ [])) (pick (ltb n (length l / 4)) (four l n h a b c) l) (pick (ltb n (length l / 4)) (n + 1) n) (pick (ltb n (length l / 4)) full true)
 exact-put {A} f g size is l n full x h a b c e s = go (decLt (length is) (size / 4))
@@ -699,61 +697,3 @@ module _ (L N B : ℕ) (t : List ℕ) (clean : Ideal → Ideal) where
 
   pub note-stays : (m : Mem) → ((noteSt (m .notes) (m .st) .lfull ≡ false → m .st .lfull ≡ false) × (noteSt (m .notes) (m .st) .bfull ≡ false → m .st .bfull ≡ false))
   note-stays m = (λ e. sym (note-same (λ (z : St). z .lfull) m (λ e c. refl)) ∙ e, λ e. sym (note-same (λ (z : St). z .bfull) m (λ e c. refl)) ∙ e)
-
-  abbrev pub memory-simulates : Simulation (idealR t clean) (memR t)
-  memory-simulates = record {
-    Sim = Sim L N B;
-    Number = λ m x y. m .st .bfull ≡ false → x ≡ y;
-    Place = λ m x y. m .st .lfull ≡ false → x ≡ y;
-    Later = Later;
-    later-refl = λ m. (λ e. e, λ e. e);
-    later-trans = λ a b c p q. (λ e. p .0 (q .0 e), λ e. p .1 (q .1 e));
-    number-refl = λ m x e. refl;
-    number-later = λ m n x y p q e. q (p .1 e);
-    number-map = λ m f x y q e. ap f (q e);
-    place-refl = λ m x e. refl;
-    place-later = λ m n x y p q e. q (p .0 e);
-    Fits = Fits;
-    fits-later = λ m n p e. p .0 e;
-    place-is = λ m x y f q. q f;
-    Room = Room L;
-    room-fits = λ m r. r .0;
-    beginLine = sim-line;
-    beginLine-later = λ m l. (λ e. e, λ e. e);
-    emit = λ i m k r a b c w s. sim-emit i m k r a a b b c w s (λ f. refl);
-    emit-number = λ i m k r a a′ b c w n s q. sim-emit i m k r a a′ b b c w s (λ f. sym (hide-number (m .st .bfull) k (m .st .line) r a a′ b c n q));
-    emit-numbers = λ i m k r a a′ b b′ c w n n2 s q o. sim-emit i m k r a a′ b b′ c w s (λ f. sym (hide-numbers (m .st .bfull) k (m .st .line) r a a′ b b′ c n n2 q o));
-    emit-place = λ i m k r a a′ b c w s q. sim-emit i m k r a a′ b b c w s (λ f. ap (λ (z : ℕ). hideRec (m .st .bfull) (rec k (m .st .line) r z b c)) (sym (q f)));
-    emit-later = λ m k r a b c. (put-later (m .list) (m .st), rw (put-form (m .list) (m .st)) (λ e. e));
-    count = λ i m s e. held-count (s .listed .held) e;
-    note = sim-note;
-    note-later = λ m k r v. note-stays m;
-    noteAt = sim-note-at;
-    noteAt-later = λ m l k r v. note-stays m;
-    symbol = sim-symbol;
-    symbol-number = λ i m x n g s f. sim-symbol-number i m x n g s f;
-    symbol-later = λ m x n g. (λ e. sym (symbol-rest (λ (z : St). z .lfull) t (m .book) (m .st) x n g (λ e k c. refl)) ∙ e, symbol-later t (m .book) (m .st) x n g);
-    datum = sim-datum;
-    datum-later = λ m x n q. datum-stays (m .book) (m .st);
-    firstDatum = λ i m s. s .first-is;
-    firstDatum-none = λ i m s. s .first-none;
-    byte = sim-byte;
-    byte-later = λ m x n v. byte-stays (m .book) (m .st);
-    nextByte = λ i m s f. ap low (sym (s .booked .counted f .bytes-are));
-    patch = sim-patch;
-    patch-later = λ m k v. (λ e. e, λ e. e);
-    patchEnd = sim-patch-end;
-    patchEnd-later = λ m k v. (λ e. e, λ e. e);
-    look = λ i m k s f. listed-look L (i .records) (m .list) (m .st .records) (m .st .lfull) (m .st .bfull) k (s .listed) f;
-    settle = sim-settle;
-    settle-number = sim-settle-number;
-    settle-later = λ m k v. (λ e. e, λ e. e);
-    unsettle = sim-unsettle;
-    unsettle-later = λ m k. (λ e. e, λ e. e);
-    noteAt-fits = λ m l k r v f. note-same (λ (z : St). z .lfull) m (λ e c. refl) ∙ f;
-    settle-fits = λ m k v f. f;
-    unsettle-fits = λ m k f. f;
-    noteAt-room = λ m l k r v f. (note-same (λ (z : St). z .lfull) m (λ e c. refl) ∙ f .0, rw (note-same (λ (z : St). z .records) m (λ e c. refl)) (f .1));
-    settle-room = λ m k v f. f;
-    unsettle-room = λ m k f. f;
-  }

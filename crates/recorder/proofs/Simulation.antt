@@ -1,10 +1,10 @@
 -- One recorder's states follow another's. A number that an operation gave, and an address, may differ where the second recorder says so.
 use mathlib.Core.Path.{_≡_}
-use mathlib.Core.Bool.{Bool, true, false}
+use mathlib.Core.Bool.{true, false}
 use Prim.Native.Nat.{ℕ, _%_}
 use lib.Dec.{eqb}
 use Rattle.recorder.specs.declared.word.Range.{Range}
-use Rattle.recorder.specs.Recorder.{Recorder, Named, Look}
+use Rattle.recorder.specs.Recorder.{Recorder, Look}
 use Rattle.recorder.proofs.Hide.{numbered, twice, fresh}
 
 -- two lines that stand as one in a head word
@@ -81,3 +81,6 @@ pub record Simulation {S T : Type 0} (R : Recorder S) (Q : Recorder T) : Type 1 
   pub noteAt-room : (t : T) (l k : ℕ) (r : Range) (v : ℕ) → Room t → Room (Q .noteAt t l k r v)
   pub settle-room : (t : T) (k v : ℕ) → Room t → Room (Q .settle t k v)
   pub unsettle-room : (t : T) (k : ℕ) → Room t → Room (Q .unsettle t k)
+  -- clean_up, where one more record fits
+  pub Done : S → T → Type 0
+  pub cleanUp : (s : S) (t : T) → Sim s t → Room t → Done (R .cleanUp s) (Q .cleanUp t)

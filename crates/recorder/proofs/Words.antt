@@ -1,15 +1,12 @@
 -- Records, notes and entries as words: one more at the end, one changed, one read.
 use mathlib.Core.Path.{_≡_, refl, sym, ap, _∙_}
 use mathlib.Core.List.{List, [], _∷_, _++_, append-assoc, append-nil}
-use mathlib.Core.Bool.{Bool, true, false}
-use Prim.Native.Nat.{ℕ, zero, suc, _+_, _*_, _-_, _≤_, _<_, _/_, _%_, min}
-use lib.Dec.{ltb}
-use lib.ListN.{length, getD, set, take, drop, replicate, length-append}
+use Prim.Native.Nat.{ℕ, zero, suc, _+_, _*_, _-_, _≤_, _<_, _%_}
+use lib.ListN.{length, getD, set, replicate, length-append}
 use lib.Seq.{sets, set-append-seam}
 use native.Mathlib.Numerals.{add-one, add-two, add-three, add-four}
 use native.Mathlib.Omega.{arith}
-use Rattle.recorder.specs.declared.word.Range.{Range}
-use Rattle.recorder.specs.Word.{pick, kind, payload, wordOf, rangeOf, rangeWord}
+use Rattle.recorder.specs.Word.{kind, payload, wordOf, rangeOf, rangeWord}
 use Rattle.recorder.specs.Ideal.{Rec, rec, noRec, change}
 use Rattle.recorder.specs.Layout.{recWords, wordsOf, fill}
 use Rattle.recorder.specs.Mem.{part, recOf}
@@ -108,3 +105,14 @@ rec-of (r ∷ rs) n (suc k) =
     let e3 : 5 * suc k + 3 ≡ suc (suc (suc (suc (suc (5 * k + 3))))) = omega arith in
     let e4 : 5 * suc k + 4 ≡ suc (suc (suc (suc (suc (5 * k + 4))))) = omega arith in
     rw (e1, e2, e3, e4, e0) (rec-of rs n k)
+
+-- the first two words of a record, as they stand
+pub raw-at : (rs : List Rec) (zs : List ℕ) (k : ℕ) → k < length rs
+    → (getD (wordsOf recWords rs ++ zs) (5 * k) 0 ≡ wordOf (getD rs k noRec .call) (getD rs k noRec .line)) × (getD (wordsOf recWords rs ++ zs) (5 * k + 1) 0 ≡ rangeWord (getD rs k noRec .range))
+raw-at [] zs k h = absurd (omega arith)
+raw-at (r ∷ rs) zs zero h = (refl, refl)
+raw-at (r ∷ rs) zs (suc k) h =
+    let e0 : 5 * suc k ≡ suc (suc (suc (suc (suc (5 * k))))) = omega arith in
+    let e1 : 5 * suc k + 1 ≡ suc (suc (suc (suc (suc (5 * k + 1))))) = omega arith in
+    let q = raw-at rs zs k (omega arith) in
+    (rw e0 (q .0), rw e1 (q .1))

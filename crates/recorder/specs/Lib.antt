@@ -6,3 +6,4 @@ pub mod Marks
 pub mod Closing
 pub mod Layout
 pub mod Mem
+pub mod MarkWords

@@ -1,8 +1,8 @@
 -- The memory that is compiled into: three lists of words of fixed lengths, and the counts and flags of St.
 -- A put that does not fit changes no word and sets its buffer's flag, which stays.
-use mathlib.Core.List.{List, [], _∷_, _++_}
+use mathlib.Core.List.{List, _++_}
 use mathlib.Core.Bool.{Bool, true, false}
-use Prim.Native.Nat.{ℕ, zero, suc, _+_, _*_, _-_, _/_, _%_, min}
+use Prim.Native.Nat.{ℕ, zero, suc, _+_, _*_, _-_, _/_, _%_, _^_, min}
 use lib.Dec.{ltb, eqb}
 use lib.ListN.{length, getD, set, take, drop}
 use Rattle.recorder.specs.declared.word.Range.{Range}
@@ -10,7 +10,7 @@ use Rattle.recorder.specs.declared.codegen.St.{St}
 use Rattle.recorder.specs.Word.{pick, both, kind, kindAt, payloadAt, rangeAt, wordOf, rangeWord}
 use Rattle.recorder.specs.Name.{sameName}
 use Rattle.recorder.specs.Ideal.{Rec, rec, noRange, lookOf, firstOf}
-use Rattle.recorder.specs.Recorder.{Recorder, Named, Look, unknown}
+use Rattle.recorder.specs.Recorder.{Recorder, Look, unknown}
 use Rattle.recorder.specs.Closing.{isWhile, isWend, isStart, isEnd, isOne, isFor, isNextOf, roundUp}
 
 pub record Mem : Type 0 where
@@ -22,7 +22,7 @@ pub record Mem : Type 0 where
 abbrev pub mem : List ℕ → List ℕ → List ℕ → St → Mem
 mem l n b s = record { list = l; notes = n; book = b; st = s }
 
--- St with some of its fields anew
+-- nothing written yet
 abbrev pub nothing : St
 nothing = record { records = 0; notes = 0; entries = 0; names = 0; datums = 0; bytes = 0; line = 0; first = 0; lfull = false; nfull = false; bfull = false }
 
@@ -30,6 +30,7 @@ nothing = record { records = 0; notes = 0; entries = 0; names = 0; datums = 0; b
 abbrev pub onLine : St → ℕ → St
 onLine s l = record { records = s .records; notes = s .notes; entries = s .entries; names = s .names; datums = s .datums; bytes = s .bytes; line = l; first = 0; lfull = s .lfull; nfull = s .nfull; bfull = s .bfull }
 
+-- one count anew, and its buffer's flag; or one kind's count
 abbrev pub withRecords : St → ℕ → Bool → St
 withRecords s n f = record { records = n; notes = s .notes; entries = s .entries; names = s .names; datums = s .datums; bytes = s .bytes; line = s .line; first = s .first; lfull = f; nfull = s .nfull; bfull = s .bfull }
 
@@ -206,14 +207,21 @@ unfoldable pub patchWhiles : List ℕ → List ℕ → St → Passed
 patchWhiles l n s = openFrom (passed (whilesFrom l 0 0 (present l s)) n s) (topFrom l 0 0 (present l s)) (present l s)
 
 -- convert_for_loop_to_sleep: a record anew but for its line and its range
+abbrev pub setHead : ℕ → List ℕ → List ℕ
+setHead k p = set p 0 (wordOf k (getD p 0 0))
+
 abbrev pub rewrite : ℕ → ℕ → ℕ → ℕ → List ℕ → List ℕ
-rewrite k a b c p = setC c (setB b (setA a (set p 0 (wordOf k (getD p 0 0)))))
+rewrite k a b c p = setC c (setB b (setA a (setHead k p)))
 
 abbrev pub noOpAt : List ℕ → ℕ → List ℕ
 noOpAt l k = atRec (rewrite 1 0 0 0) l k
 
 abbrev pub sleepAt : List ℕ → ℕ → List ℕ
 sleepAt l k = atRec (rewrite 2 65 1 0) l k
+
+-- what m is rounded up to a multiple of, for e from 129 on
+unfoldable pub unitOf : ℕ → ℕ
+unitOf e = pick (ltb e 129) 1 (2 ^ (160 - e))
 
 unfoldable pub wholeAt : List ℕ → ℕ → List ℕ
 wholeAt l k = pick (eqb (recOf l k .call) 3) (atRec (rewrite 3 (roundUp (recOf l k .a) (recOf l k .b) .e) (roundUp (recOf l k .a) (recOf l k .b) .m) 0) l k) l

@@ -14,11 +14,11 @@ use crate::word::word_of;
 ghost use mathlib.Core.Path.{_≡_};
 ghost use Prim.Native.Nat.{_+_, _*_, _/_, _%_, min};
 ghost use lib.Dec.{ltb};
-ghost use lib.ListN.{length, getD, set, replicate};
+ghost use lib.ListN.{length, replicate};
 ghost use Rattle.recorder.specs.Word.{pick, wordOf, rangeWord};
 ghost use Rattle.recorder.specs.Name.{upper, sameUnits, sameName};
 ghost use Rattle.recorder.specs.Ideal.{firstOf};
-ghost use Rattle.recorder.specs.Mem.{nothing, onLine, withRecords, withNotes, withEntries, withNames, withData, withBytes, listRoom, four, low, more, putList, putSt, putRec, noteList, noteSt, entryList, entrySt, isName, lookup, symbolNumber, symbolList, symbolSt, datumList, datumSt, byteList, byteSt, onRec, setA, setB, setC, settleArgs, clearArgs, lookAt};
+ghost use Rattle.recorder.specs.Mem.{nothing, onLine, withRecords, withNotes, withEntries, withNames, withData, withBytes, listRoom, four, low, more, putSt, putRec, noteList, noteSt, entryList, entrySt, isName, lookup, symbolNumber, symbolList, symbolSt, datumList, datumSt, byteList, byteSt, onRec, setA, setB, setC, settleArgs, clearArgs, lookAt};
 
 // The counts, the numbers within the book's three kinds, the current line with its first datum plus 1 (0 while it has none),
 // and whether something did not fit.
@@ -194,7 +194,7 @@ pub fn with_bytes(st: St, bytes: usize) -> St
     }
 }
 
-fn least(a: usize, b: usize) -> usize
+pub fn least(a: usize, b: usize) -> usize
     ensures { λ r. ⌜ r ≡ min a b ⌝ }
 {
     if a < b { a } else { b }
@@ -257,7 +257,7 @@ fn put_four(s: &mut [u32], n: usize, h: u32, x: u32, y: u32, z: u32) -> bool
     }
 }
 
-fn put_note(notes: &mut [u32], st: St, h: u32, w: u32, severity: u32) -> St
+pub fn put_note(notes: &mut [u32], st: St, h: u32, w: u32, severity: u32) -> St
     ensures { λ x. ⌜ (now (notes .exit) ≡ noteList (now (notes .entry)) st h w severity) × (x ≡ noteSt (now (notes .entry)) st) ⌝ }
 {
     let n = st.notes;
@@ -358,6 +358,7 @@ fn find(text: &[u16], book: &[u32], start: u32, len: u32, sigil: u32, entries: u
     let mut k: usize = 0;
     let mut left = least(entries, book.len() / 4);
     while 0 < left {
+        left -= 1;
         let i = 4 * k;
         if is_named(
             text,
@@ -372,7 +373,6 @@ fn find(text: &[u16], book: &[u32], start: u32, len: u32, sigil: u32, entries: u
             return k;
         }
         k += 1;
-        left -= 1;
     }
     k
 }
@@ -446,7 +446,7 @@ pub fn current_addr(st: St) -> Addr
 }
 
 // A record's arguments, written in the part of the list that begins at the record.
-fn set_a(part: &mut [u32], v: u32)
+pub fn set_a(part: &mut [u32], v: u32)
     ensures { λ r. ⌜ now (part .exit) ≡ setA v (now (part .entry)) ⌝ }
 {
     if 2 < part.len() {
@@ -454,7 +454,7 @@ fn set_a(part: &mut [u32], v: u32)
     }
 }
 
-fn set_b(part: &mut [u32], v: u32)
+pub fn set_b(part: &mut [u32], v: u32)
     ensures { λ r. ⌜ now (part .exit) ≡ setB v (now (part .entry)) ⌝ }
 {
     if 3 < part.len() {
@@ -462,7 +462,7 @@ fn set_b(part: &mut [u32], v: u32)
     }
 }
 
-fn set_c(part: &mut [u32], v: u32)
+pub fn set_c(part: &mut [u32], v: u32)
     ensures { λ r. ⌜ now (part .exit) ≡ setC v (now (part .entry)) ⌝ }
 {
     if 4 < part.len() {

@@ -1,10 +1,7 @@
-use mathlib.Core.Path.{_≡_, refl}
-use Prim.Native.Nat.{_+_}
 use borrow.Author.Needs.{needs}
 use native.Mathlib.Omega.{arith}
-use mathlib.Core.Path.{_≡_, refl, _∙_, ap}
-use Prim.Native.Nat.{_+_, _≤_, _/_}
-use lib.ListN.{length}
+use mathlib.Core.Path.{_≡_, refl}
+use Prim.Native.Nat.{_+_}
 use Rattle.recorder.specs.Mem.{lookup}
 use Rattle.recorder.proofs.Laws.{find-step, find-stop, find-end}
 use Rattle.recorder.proofs.codegen.find.Statement.{statement}
@@ -21,13 +18,17 @@ Inv-loop text book start len sigil entries k₀ left₀ k left = (lookup text bo
 abbrev μ-loop : tie.MeasureT-loop
 μ-loop text book start len sigil entries k₀ left₀ k left = left
 
--- src/codegen.rt:360:9
+-- src/codegen.rt:359:9
 least-requires : tie.Need-least-requires Inv-loop μ-loop
 least-requires c κs = search needs
 
--- src/codegen.rt:361:5
+-- src/codegen.rt:360:5
 loop-holds : tie.Need-loop-holds Inv-loop μ-loop
 loop-holds c = (refl, refl)
+
+-- src/codegen.rt:361:9
+sub-left : tie.Need-sub-left Inv-loop μ-loop
+sub-left c = omega arith
 
 -- src/codegen.rt:362:17
 mul-i : tie.Need-mul-i Inv-loop μ-loop
@@ -73,19 +74,15 @@ returns c = find-stop _ _ _ _ _ _ _ _ _ _ _ _ _ _ (c .before .before .before .be
 add-k : tie.Need-add-k Inv-loop μ-loop
 add-k c = omega arith
 
--- src/codegen.rt:376:9
-sub-left : tie.Need-sub-left Inv-loop μ-loop
-sub-left c = omega arith
-
--- src/codegen.rt:361:5
+-- src/codegen.rt:360:5
 loop-less : tie.Need-loop-less Inv-loop μ-loop
 loop-less c = omega arith
 
--- src/codegen.rt:361:5
+-- src/codegen.rt:360:5
 loop-again : tie.Need-loop-again Inv-loop μ-loop
 loop-again c = (find-step _ _ _ _ _ _ _ _ _ _ _ _ _ (c .before .before .before .before .before .before .loop-test .taken) (c .before .before .before .before .before .before .before .loop .inv .0) (c .before .before .before .before .before .word-at .ensures) (c .before .before .before .before .word-at2 .ensures) (c .before .before .before .word-at3 .ensures) (c .before .before .word-at4 .ensures) (c .before .is-named .ensures) (c .if1 .left), omega arith)
 
--- src/codegen.rt:356:1
+-- src/codegen.rt:355:1
 returns-2 : tie.Need-returns-2 Inv-loop μ-loop
 returns-2 c = find-end _ _ _ _ _ _ _ _ _ (c .before .before .least .ensures) (c .loop-test .left) (c .before .loop .inv .0)
 
@@ -97,6 +94,7 @@ find-spec =
     μ-loop
     least-requires
     loop-holds
+    sub-left
     mul-i
     word-at-requires
     add-word-at
@@ -108,7 +106,6 @@ find-spec =
     is-named-requires
     returns
     add-k
-    sub-left
     loop-less
     loop-again
     returns-2)
