@@ -1,0 +1,32 @@
+use Rattle.declarations.proofs.Laws.{at-data}
+use borrow.Author.Needs.{needs}
+use Rattle.declarations.proofs.data.compile_data.Statement.{statement}
+use Rattle.declarations.proofs.data.compile_data.Tie as tie
+use Rattle.declarations.proofs.data.compile_data.Reads as reads
+use Rattle.declarations.proofs.data.compile_data.Lts as lts
+use Rattle.declarations.proofs.data.data_each.Reads as data-each-reads
+use Rattle.expressions.proofs.expr.count_at.Reads as count-at-reads
+
+-- src/data.rt:95:9
+count-at-requires : tie.Need-count-at-requires
+count-at-requires c κs = search needs
+
+-- src/data.rt:96:5
+data-each-requires : tie.Need-data-each-requires
+data-each-requires c κs = search needs
+
+-- src/data.rt:84:1
+same-length : tie.Need-same-length
+same-length c = search needs
+
+-- src/data.rt:84:1
+same-length-2 : tie.Need-same-length-2
+same-length-2 c = search needs
+
+-- src/data.rt:84:1
+returns : tie.Need-returns
+returns c = λ l left k r. at-data _ _ _ _ _ _ _ _ _ _ _ _ (c .before .before .before .before .before .before .before .count-at .ensures) ((c .before .before .before .before .data-each .ensures) l)
+
+pub compile-data-spec : {M : Type 1} → statement M
+compile-data-spec =
+    tie.close (tie.spec count-at-requires data-each-requires same-length same-length-2 returns)

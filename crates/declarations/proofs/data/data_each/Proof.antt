@@ -1,0 +1,95 @@
+use borrow.Author.Needs.{needs}
+use native.Mathlib.Omega.{arith}
+use Prim.Native.Nat.{ℕ, _≤_}
+use mathlib.Core.List.{List}
+use mathlib.Core.Path.{_≡_, refl, _∙_}
+use lib.ListN.{length}
+use Rattle.recorder.specs.Mem.{mem, memR}
+use Rattle.sheet.specs.Skip.{skipRepeat}
+use Rattle.sheet.specs.Tree.{itemsAt}
+use Rattle.rules.specs.Stmt.{compileData}
+use Rattle.declarations.specs.Parts.{datumHere, twoOn}
+use Rattle.declarations.proofs.Laws.{step-data, step-two, data-done}
+use Rattle.declarations.proofs.data.data_each.Statement.{statement}
+use Rattle.declarations.proofs.data.data_each.Tie as tie
+use Rattle.declarations.proofs.data.data_each.Reads as reads
+use Rattle.declarations.proofs.data.data_each.Lts as lts
+use Rattle.declarations.proofs.data.datum_node.Reads as datum-node-reads
+use Rattle.recorder.proofs.word.behind.Reads as behind-reads
+use Rattle.recorder.proofs.word.payload_at.Reads as payload-at-reads
+use Rattle.recorder.proofs.word.range_at.Reads as range-at-reads
+
+abbrev Inv-loop : tie.InvT-loop
+Inv-loop sheet text notes₀ book₀ base at n s₀ p₀ more₀ notes book s p more = (length notes ≡ length notes₀) × (length book ≡ length book₀)
+    × (skipRepeat sheet (twoOn sheet) more p ≡ skipRepeat sheet (twoOn sheet) n at)
+    × ((l : List ℕ) → compileData (memR text) text base (itemsAt sheet (datumHere sheet) (twoOn sheet) more p) (mem l notes book s) ≡ compileData (memR text) text base (itemsAt sheet (datumHere sheet) (twoOn sheet) n at) (mem l notes₀ book₀ s₀))
+
+abbrev μ-loop : tie.MeasureT-loop
+μ-loop sheet text notes₀ book₀ base at n s₀ p₀ more₀ notes book s p more = more
+
+-- src/data.rt:73:5
+loop-holds : tie.Need-loop-holds Inv-loop μ-loop
+loop-holds c = (refl, refl, refl, λ l. refl)
+
+-- src/data.rt:74:13
+range-at-requires : tie.Need-range-at-requires Inv-loop μ-loop
+range-at-requires c κs = search needs
+
+-- src/data.rt:75:13
+behind-requires : tie.Need-behind-requires Inv-loop μ-loop
+behind-requires c κs = search needs
+
+-- src/data.rt:76:13
+payload-at-requires : tie.Need-payload-at-requires Inv-loop μ-loop
+payload-at-requires c κs = search needs
+
+-- src/data.rt:77:9
+datum-node-requires : tie.Need-datum-node-requires Inv-loop μ-loop
+datum-node-requires c κs = search needs
+
+-- src/data.rt:78:9
+behind-requires-2 : tie.Need-behind-requires-2 Inv-loop μ-loop
+behind-requires-2 c κs = search needs
+
+-- src/data.rt:79:9
+sub-more : tie.Need-sub-more Inv-loop μ-loop
+sub-more c = omega arith
+
+-- src/data.rt:73:5
+loop-less : tie.Need-loop-less Inv-loop μ-loop
+loop-less c = omega arith
+
+-- src/data.rt:73:5
+loop-again : tie.Need-loop-again Inv-loop μ-loop
+loop-again c = ((c .before .before .before .before .before .datum-node .kept .1 .0) ∙ (c .before .before .before .before .before .before .before .before .before .before .before .before .loop .inv .0), (c .before .before .before .before .before .datum-node .kept .1 .1 .0) ∙ (c .before .before .before .before .before .before .before .before .before .before .before .before .loop .inv .1), step-two _ _ _ _ _ (c .before .before .before .before .before .before .before .before .before .before .before .loop-test .taken) (c .before .before .before .before .before .before .before .before .before .behind .ensures) (c .behind2 .ensures) ∙ (c .before .before .before .before .before .before .before .before .before .before .before .before .loop .inv .2), λ l. step-data _ _ _ _ _ _ _ _ _ _ _ (c .before .before .before .before .before .before .before .before .before .before .before .loop-test .taken) (c .before .before .before .before .before .before .before .before .before .before .range-at .ensures) (c .before .before .before .before .before .before .before .before .before .behind .ensures) (c .before .before .before .before .before .before .before .before .payload-at .ensures) (c .behind2 .ensures) ((c .before .before .before .before .before .datum-node .ensures) l) ∙ (c .before .before .before .before .before .before .before .before .before .before .before .before .loop .inv .3) l)
+
+-- src/data.rt:58:1
+same-length : tie.Need-same-length Inv-loop μ-loop
+same-length c = (c .before .loop .inv .0)
+
+-- src/data.rt:58:1
+same-length-2 : tie.Need-same-length-2 Inv-loop μ-loop
+same-length-2 c = (c .before .loop .inv .1)
+
+-- src/data.rt:58:1
+returns : tie.Need-returns Inv-loop μ-loop
+returns c = λ l. data-done _ _ _ _ _ _ _ _ _ (c .loop-test .left) (c .before .loop .inv .2) ((c .before .loop .inv .3) l)
+
+pub data-each-spec : {M : Type 1} → statement M
+data-each-spec =
+    tie.close
+    (tie.spec
+    Inv-loop
+    μ-loop
+    loop-holds
+    range-at-requires
+    behind-requires
+    payload-at-requires
+    datum-node-requires
+    behind-requires-2
+    sub-more
+    loop-less
+    loop-again
+    same-length
+    same-length-2
+    returns)

@@ -1,0 +1,63 @@
+use mathlib.Core.Path.{_∙_}
+use Rattle.expressions.proofs.Laws.{put-at}
+use Rattle.declarations.proofs.PlaceLaws.{at-field}
+use borrow.Author.Needs.{needs}
+use Rattle.declarations.proofs.field.compile_field.Statement.{statement}
+use Rattle.declarations.proofs.field.compile_field.Tie as tie
+use Rattle.declarations.proofs.field.compile_field.Reads as reads
+use Rattle.declarations.proofs.field.compile_field.Lts as lts
+use Rattle.declarations.proofs.field.field_each.Reads as field-each-reads
+use Rattle.expressions.proofs.expr.compile_typed.Reads as compile-typed-reads
+use Rattle.expressions.proofs.expr.count_at.Reads as count-at-reads
+use Rattle.recorder.proofs.codegen.emit_field.Reads as emit-field-reads
+use Rattle.sheet.proofs.expr.skip_expr.Reads as skip-expr-reads
+
+-- src/field.rt:78:9
+skip-expr-requires : tie.Need-skip-expr-requires
+skip-expr-requires c κs = search needs
+
+-- src/field.rt:79:9
+count-at-requires : tie.Need-count-at-requires
+count-at-requires c κs = search needs
+
+-- src/field.rt:80:9
+field-each-requires : tie.Need-field-each-requires
+field-each-requires c κs = search needs
+
+-- src/field.rt:82:9
+compile-typed-requires : tie.Need-compile-typed-requires
+compile-typed-requires c κs = search needs
+
+-- src/field.rt:95:9
+emit-field-requires : tie.Need-emit-field-requires
+emit-field-requires c κs = search needs
+
+-- src/field.rt:64:1
+same-length : tie.Need-same-length
+same-length c = (c .before .before .emit-field .kept .0) ∙ (c .before .before .before .before .before .before .before .before .before .before .before .compile-typed .kept .1 .1 .0) ∙ (c .before .before .before .before .before .before .before .before .before .before .before .before .before .before .before .before .before .before .before .before .before .before .field-each .kept .1 .1 .0)
+
+-- src/field.rt:64:1
+same-length-2 : tie.Need-same-length-2
+same-length-2 c = (c .before .before .before .before .before .before .before .before .before .before .before .compile-typed .kept .1 .1 .1 .0) ∙ (c .before .before .before .before .before .before .before .before .before .before .before .before .before .before .before .before .before .before .before .before .before .before .field-each .kept .1 .1 .1 .0)
+
+-- src/field.rt:64:1
+same-length-3 : tie.Need-same-length-3
+same-length-3 c = (c .before .before .before .before .before .before .before .before .before .before .before .compile-typed .kept .1 .1 .1 .1 .0) ∙ (c .before .before .before .before .before .before .before .before .before .before .before .before .before .before .before .before .before .before .before .before .before .before .field-each .kept .1 .1 .1 .1 .0)
+
+-- src/field.rt:64:1
+returns : tie.Need-returns
+returns c = λ k. at-field _ _ _ _ _ _ _ _ _ _ _ _ _ _ _ _ (c .before .before .before .before .before .before .before .before .before .before .before .before .before .before .before .before .before .before .before .before .before .before .before .before .before .before .before .skip-expr .ensures) (c .before .before .before .before .before .before .before .before .before .before .before .before .before .before .before .before .before .before .before .before .before .before .before .before .before .before .count-at .ensures) (c .before .before .before .before .before .before .before .before .before .before .before .before .before .before .before .before .before .before .before .before .before .before .field-each .ensures) (c .before .before .before .before .before .before .before .before .before .before .before .compile-typed .ensures) (put-at _ _ _ _ _ _ _ _ _ _ _ (c .before .before .emit-field .ensures))
+
+pub compile-field-spec : {M : Type 1} → statement M
+compile-field-spec =
+    tie.close
+    (tie.spec
+    skip-expr-requires
+    count-at-requires
+    field-each-requires
+    compile-typed-requires
+    emit-field-requires
+    same-length
+    same-length-2
+    same-length-3
+    returns)

@@ -1,0 +1,4 @@
+pub mod OpLaws
+pub mod PlaceLaws
+pub mod JumpLaws
+pub mod DrawLaws

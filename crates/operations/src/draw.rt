@@ -1,0 +1,111 @@
+// The draw statements: compile_draw_stmt of compiler.rs.
+use expressions::expr::Went;
+use recorder::codegen::St;
+use recorder::word::Range;
+use rules::tables::Wants;
+use sheet::form::Shape;
+use sheet::form::Sort;
+ghost use mathlib.Core.Path.{_≡_};
+ghost use mathlib.Core.List.{List};
+ghost use Prim.Native.Nat.{ℕ};
+ghost use Rattle.recorder.specs.Mem.{mem, memR};
+ghost use Rattle.sheet.specs.Skip.{skipNode};
+ghost use Rattle.sheet.specs.Tree.{exprAt, exprsAt};
+ghost use Rattle.rules.specs.Stmt.{surplusNotes, drawNode};
+ghost use Rattle.expressions.specs.Body.{Body};
+ghost use Rattle.operations.specs.Parts.{surplusNote};
+
+// A note where no more arguments are allowed.
+fn surplus_note(notes: &mut [u32], st: St, keep: u32, r: Range) -> St
+    ensures { λ x. ⌜ ((t l b : List ℕ) → mem l (now (notes .exit)) b x ≡ surplusNote t keep r (mem l (now (notes .entry)) b st)) ⌝ }
+{
+    if keep == 0 {
+        recorder::codegen::note(notes, st, 7, r, 1)
+    } else {
+        st
+    }
+}
+
+// A note for each of n arguments behind the first so many.
+pub fn surplus_notes(
+    sheet: &[u32],
+    notes: &mut [u32],
+    st: St,
+    at: usize,
+    n: u32,
+    max: u32,
+    left: usize,
+) -> St
+    ensures { λ x. ⌜ ((t l b : List ℕ) (base : ℕ) → mem l (now (notes .exit)) b x ≡ surplusNotes (memR t) t base max (exprsAt (now (sheet .entry)) (exprAt (now (sheet .entry)) left) (skipNode (now (sheet .entry)) left Sort.Expr) n at) (mem l (now (notes .entry)) b st)) ⌝ }
+{
+    let mut s = st;
+    let mut p = at;
+    let mut keep = max;
+    let mut more = n;
+    while 0 < more {
+        let r = expressions::expr::expr_range(sheet, p);
+        s = surplus_note(notes, s, keep, r);
+        keep = rules::name::less_one(keep);
+        p = sheet::expr::skip_expr(sheet, p, left);
+        more -= 1;
+    }
+    s
+}
+
+// Too few arguments, too many, or the call.
+fn draw_node(
+    sheet: &[u32],
+    list: &mut [u32],
+    notes: &mut [u32],
+    st: St,
+    at: usize,
+    n: u32,
+    left: usize,
+    k: u32,
+    r: Range,
+) -> St
+    ensures { λ x. ⌜ ((t b : List ℕ) (base : ℕ) → mem (now (list .exit)) (now (notes .exit)) b x ≡ drawNode (memR t) t base k r (exprsAt (now (sheet .entry)) (exprAt (now (sheet .entry)) left) (skipNode (now (sheet .entry)) left Sort.Expr) n at) (mem (now (list .entry)) (now (notes .entry)) b st)) ⌝ }
+{
+    if n < rules::tables::draw_min(k) {
+        return recorder::codegen::note(notes, st, 6, r, 1);
+    }
+    let max = rules::tables::draw_max(k);
+    if max < n {
+        return surplus_notes(sheet, notes, st, at, n, max, left);
+    }
+    recorder::codegen::emit_op(list, st, r, k, n)
+}
+
+pub fn compile_draw_stmt(
+    sheet: &[u32],
+    text: &[u16],
+    list: &mut [u32],
+    notes: &mut [u32],
+    book: &mut [u32],
+    st: St,
+    base: u32,
+    at: usize,
+    left: usize,
+    k: u32,
+    r: Range,
+) -> Went
+    ensures { λ x. ⌜ Body (now (sheet .entry)) (now (text .entry)) base left Shape.Draw k r at (mem (now (list .entry)) (now (notes .entry)) (now (book .entry)) st) (mem (now (list .exit)) (now (notes .exit)) (now (book .exit)) (x .st)) (x .at) ⌝ }
+{
+    let c = expressions::expr::count_at(sheet, at);
+    let x = expressions::expr::compile_args(
+        sheet,
+        text,
+        list,
+        notes,
+        book,
+        st,
+        base,
+        c.at,
+        c.count,
+        Wants::Draw(k),
+        left,
+    );
+    let xs = x.st;
+    let s = draw_node(sheet, list, notes, xs, c.at, c.count, left, k, r);
+    Went { st: s, at: x.at }
+}

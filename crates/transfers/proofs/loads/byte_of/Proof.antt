@@ -1,0 +1,51 @@
+use Rattle.transfers.proofs.LoadLaws.{byte-zero, byte-literal, byte-other}
+use borrow.Author.Needs.{needs}
+use Rattle.transfers.proofs.loads.byte_of.Statement.{statement}
+use Rattle.transfers.proofs.loads.byte_of.Tie as tie
+use Rattle.transfers.proofs.loads.byte_of.Reads as reads
+use Rattle.transfers.proofs.loads.byte_of.Lts as lts
+
+returns : tie.Need-returns
+returns c = byte-zero (c .before .before .before .args .sheet .now) (c .before .before .before .args .text .now) (c .before .before .before .args .base) (c .before .before .before .args .left) (c .before .before .before .args .at) (c .if1 .taken)
+
+payload-at-requires : tie.Need-payload-at-requires
+payload-at-requires c κs = search needs
+
+expr-range-requires : tie.Need-expr-range-requires
+expr-range-requires c κs = search needs
+
+cast-text-place : tie.Need-cast-text-place
+cast-text-place c = search needs
+
+text-place-requires : tie.Need-text-place-requires
+text-place-requires c κs = search needs
+
+units-requires : tie.Need-units-requires
+units-requires c κs = search needs
+
+cast-byte-units : tie.Need-cast-byte-units
+cast-byte-units c = search needs
+
+byte-units-requires : tie.Need-byte-units-requires
+byte-units-requires c κs = search needs
+
+returns-2 : tie.Need-returns-2
+returns-2 c = byte-literal (c .before .before .before .before .before .before .before .before .before .before .args .sheet .now) (c .before .before .before .before .before .before .before .before .before .before .args .text .now) (c .before .before .before .before .before .before .before .before .before .before .args .base) (c .before .before .before .before .before .before .before .before .before .before .args .left) (c .before .before .before .before .before .before .before .before .before .before .args .at) _ _ _ _ (c .byte-units .result) (c .before .before .before .before .before .before .before .if1 .left) (c .before .before .before .before .before .before .payload-at .ensures) (c .before .before .before .before .before .if2 .taken) (c .before .before .before .before .expr-range .ensures) (c .before .before .text-place .ensures) (c .before .units .ensures) (c .byte-units .ensures)
+
+returns-3 : tie.Need-returns-3
+returns-3 c = byte-other (c .before .before .before .before .before .args .sheet .now) (c .before .before .before .before .before .args .text .now) (c .before .before .before .before .before .args .base) (c .before .before .before .before .before .args .left) (c .before .before .before .before .before .args .at) _ (c .before .payload-at .ensures) (c .if2 .left)
+
+pub byte-of-spec : {M : Type 1} → statement M
+byte-of-spec =
+    tie.close
+    (tie.spec
+    returns
+    payload-at-requires
+    expr-range-requires
+    cast-text-place
+    text-place-requires
+    units-requires
+    cast-byte-units
+    byte-units-requires
+    returns-2
+    returns-3)

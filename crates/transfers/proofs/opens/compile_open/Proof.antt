@@ -1,0 +1,44 @@
+use mathlib.Core.Path.{_∙_}
+use Rattle.transfers.proofs.Laws.{open-of}
+use borrow.Author.Needs.{needs}
+use Rattle.transfers.proofs.opens.compile_open.Statement.{statement}
+use Rattle.transfers.proofs.opens.compile_open.Tie as tie
+use Rattle.transfers.proofs.opens.compile_open.Reads as reads
+use Rattle.transfers.proofs.opens.compile_open.Lts as lts
+
+compile-typed-requires : tie.Need-compile-typed-requires
+compile-typed-requires c κs = search needs
+
+count-at-requires : tie.Need-count-at-requires
+count-at-requires c κs = search needs
+
+compile-typed-requires-2 : tie.Need-compile-typed-requires-2
+compile-typed-requires-2 c κs = search needs
+
+open-node-requires : tie.Need-open-node-requires
+open-node-requires c κs = search needs
+
+same-length : tie.Need-same-length
+same-length c = (c .before .before .before .before .before .before .open-node .kept .1 .1 .0) ∙ (c .before .before .before .before .before .before .before .before .before .before .before .before .before .before .before .before .before .compile-typed2 .kept .1 .1 .0) ∙ (c .before .before .before .before .before .before .before .before .before .before .before .before .before .before .before .before .before .before .before .before .before .before .before .before .before .before .before .before .before .compile-typed .kept .1 .1 .0)
+
+same-length-2 : tie.Need-same-length-2
+same-length-2 c = (c .before .before .before .before .before .before .open-node .kept .1 .1 .1 .0) ∙ (c .before .before .before .before .before .before .before .before .before .before .before .before .before .before .before .before .before .compile-typed2 .kept .1 .1 .1 .0) ∙ (c .before .before .before .before .before .before .before .before .before .before .before .before .before .before .before .before .before .before .before .before .before .before .before .before .before .before .before .before .before .compile-typed .kept .1 .1 .1 .0)
+
+same-length-3 : tie.Need-same-length-3
+same-length-3 c = (c .before .before .before .before .before .before .open-node .kept .1 .1 .1 .1 .0) ∙ (c .before .before .before .before .before .before .before .before .before .before .before .before .before .before .before .before .before .compile-typed2 .kept .1 .1 .1 .1 .0) ∙ (c .before .before .before .before .before .before .before .before .before .before .before .before .before .before .before .before .before .before .before .before .before .before .before .before .before .before .before .before .before .compile-typed .kept .1 .1 .1 .1 .0)
+
+returns : tie.Need-returns
+returns c = open-of _ _ _ _ _ _ _ _ _ _ _ _ _ _ _ _ (c .before .before .before .before .before .before .before .before .before .before .before .before .before .before .before .before .before .before .before .before .before .before .before .before .before .before .before .before .before .compile-typed .ensures) (c .before .before .before .before .before .before .before .before .before .before .before .before .before .before .before .before .before .before .before .before .before .count-at .ensures) (c .before .before .before .before .before .before .before .before .before .before .before .before .before .before .before .before .before .compile-typed2 .ensures) (c .before .before .before .before .before .before .open-node .ensures)
+
+pub compile-open-spec : {M : Type 1} → statement M
+compile-open-spec =
+    tie.close
+    (tie.spec
+    compile-typed-requires
+    count-at-requires
+    compile-typed-requires-2
+    open-node-requires
+    same-length
+    same-length-2
+    same-length-3
+    returns)

@@ -1,0 +1,22 @@
+use Rattle.expressions.proofs.Laws.{note-at}
+use Rattle.transfers.proofs.Laws.{len-noted, len-fine}
+use borrow.Author.Needs.{needs}
+use Rattle.transfers.proofs.opens.len_note.Statement.{statement}
+use Rattle.transfers.proofs.opens.len_note.Tie as tie
+use Rattle.transfers.proofs.opens.len_note.Reads as reads
+use Rattle.transfers.proofs.opens.len_note.Lts as lts
+
+note-requires : tie.Need-note-requires
+note-requires c κs = search needs
+
+same-length : tie.Need-same-length
+same-length c = search needs
+
+returns : tie.Need-returns
+returns c = λ t l b base. len-noted t base _ _ _ _ (c .before .before .before .before .if1 .taken) (note-at _ _ _ _ _ _ _ _ _ (c .before .before .note .ensures))
+
+returns-2 : tie.Need-returns-2
+returns-2 c = λ t l b base. len-fine t base _ _ _ (c .if1 .left)
+
+pub len-note-spec : {M : Type 1} → statement M
+len-note-spec = tie.close (tie.spec note-requires same-length returns returns-2)

@@ -1,0 +1,65 @@
+use mathlib.Core.Path.{_∙_}
+use Rattle.expressions.proofs.Laws.{put-at}
+use Rattle.transfers.proofs.Laws.{no-len, with-len}
+use borrow.Author.Needs.{needs}
+use Rattle.transfers.proofs.opens.open_node.Statement.{statement}
+use Rattle.transfers.proofs.opens.open_node.Tie as tie
+use Rattle.transfers.proofs.opens.open_node.Reads as reads
+use Rattle.transfers.proofs.opens.open_node.Lts as lts
+
+behind-requires : tie.Need-behind-requires
+behind-requires c κs = search needs
+
+kind-at-requires : tie.Need-kind-at-requires
+kind-at-requires c κs = search needs
+
+emit-open-requires : tie.Need-emit-open-requires
+emit-open-requires c κs = search needs
+
+same-length : tie.Need-same-length
+same-length c = search needs
+
+returns : tie.Need-returns
+returns c = no-len _ _ _ _ _ _ _ _ _ _ _ (c .before .before .before .before .before .kind-at .ensures) (c .before .before .before .before .if1 .taken) (c .before .before .before .before .before .before .behind .ensures) (put-at _ _ _ _ _ _ _ _ _ _ _ (c .before .before .emit-open .ensures))
+
+range-at-requires : tie.Need-range-at-requires
+range-at-requires c κs = search needs
+
+len-note-requires : tie.Need-len-note-requires
+len-note-requires c κs = search needs
+
+compile-typed-requires : tie.Need-compile-typed-requires
+compile-typed-requires c κs = search needs
+
+open-call-requires : tie.Need-open-call-requires
+open-call-requires c κs = search needs
+
+same-length-2 : tie.Need-same-length-2
+same-length-2 c = (c .before .before .open-call .kept .0) ∙ (c .before .before .before .before .before .before .before .before .before .before .before .compile-typed .kept .1 .1 .0)
+
+same-length-3 : tie.Need-same-length-3
+same-length-3 c = (c .before .before .before .before .before .before .before .before .before .before .before .compile-typed .kept .1 .1 .1 .0) ∙ (c .before .before .before .before .before .before .before .before .before .before .before .before .before .before .before .before .before .len-note .kept .0)
+
+same-length-4 : tie.Need-same-length-4
+same-length-4 c = (c .before .before .before .before .before .before .before .before .before .before .before .compile-typed .kept .1 .1 .1 .1 .0)
+
+returns-2 : tie.Need-returns-2
+returns-2 c = with-len _ _ _ _ _ _ _ _ _ _ _ _ _ _ _ (c .before .before .before .before .before .before .before .before .before .before .before .before .before .before .before .before .before .before .before .before .before .kind-at .ensures) (c .before .before .before .before .before .before .before .before .before .before .before .before .before .before .before .before .before .before .before .before .if1 .left) (c .before .before .before .before .before .before .before .before .before .before .before .before .before .before .before .before .before .before .before .before .before .before .behind .ensures) (c .before .before .before .before .before .before .before .before .before .before .before .before .before .before .before .before .before .before .before .range-at .ensures) ((c .before .before .before .before .before .before .before .before .before .before .before .before .before .before .before .before .before .len-note .ensures) (c .before .before .before .before .before .before .before .before .before .before .before .before .before .before .before .before .before .before .before .before .before .before .before .before .before .before .before .before .args .text .now) _ _ (c .before .before .before .before .before .before .before .before .before .before .before .before .before .before .before .before .before .before .before .before .before .before .before .before .before .before .before .before .args .base)) (c .before .before .before .before .before .before .before .before .before .before .before .compile-typed .ensures) ((c .before .before .open-call .ensures) (c .before .before .before .before .before .before .before .before .before .before .before .before .before .before .before .before .before .before .before .before .before .before .before .before .before .before .before .before .args .text .now) _ _)
+
+pub open-node-spec : {M : Type 1} → statement M
+open-node-spec =
+    tie.close
+    (tie.spec
+    behind-requires
+    kind-at-requires
+    emit-open-requires
+    same-length
+    returns
+    range-at-requires
+    len-note-requires
+    compile-typed-requires
+    open-call-requires
+    same-length-2
+    same-length-3
+    same-length-4
+    returns-2)

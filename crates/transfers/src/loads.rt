@@ -1,0 +1,264 @@
+// compile_load of compiler.rs.
+use expressions::expr::Went;
+use recorder::codegen::St;
+use recorder::word::Range;
+use rules::types::Type;
+use sheet::form::Shape;
+use sheet::form::Sort;
+ghost use mathlib.Core.Path.{_≡_};
+ghost use mathlib.Core.List.{List};
+ghost use Prim.Native.Nat.{ℕ};
+ghost use Rattle.recorder.specs.Mem.{mem, memR};
+ghost use Rattle.sheet.specs.Skip.{skipNode};
+ghost use Rattle.sheet.specs.Tree.{exprAt, exprsAt};
+ghost use Rattle.rules.specs.Stmt.{fresh, upTo255, digit, plus, byteUnit, byteUnits, byteOf, badByte, allBytes, loadByte, loadBytes};
+ghost use Rattle.expressions.specs.Body.{Body};
+ghost use Rattle.transfers.specs.Moved.{readOf, optByte, BytesNoted, Loaded};
+
+// A byte that is being read is a number: below 256 its value so far, 256 nothing yet, 257 a plus, 258 no byte.
+fn up_to_255(n: u32) -> u32
+    ensures { λ x. ⌜ readOf x ≡ upTo255 n ⌝ }
+{
+    if n < 256 { n } else { 258 }
+}
+
+fn digit_behind(b: u32, d: u16) -> u32
+    ensures { λ x. ⌜ readOf x ≡ digit (readOf b) d ⌝ }
+{
+    if b < 256 {
+        return up_to_255(b * 10 + (d as u32));
+    }
+    if b == 256 {
+        return up_to_255(d as u32);
+    }
+    if b == 257 {
+        return up_to_255(d as u32);
+    }
+    258
+}
+
+fn plus_behind(b: u32) -> u32
+    ensures { λ x. ⌜ readOf x ≡ plus (readOf b) ⌝ }
+{
+    if b == 256 { 257 } else { 258 }
+}
+
+// One more unit: blanks are passed over.
+fn byte_unit(b: u32, u: u16) -> u32
+    ensures { λ x. ⌜ readOf x ≡ byteUnit (readOf b) u ⌝ }
+{
+    if u == 32 {
+        return b;
+    }
+    if u == 43 {
+        return plus_behind(b);
+    }
+    if u < 48 {
+        return 258;
+    }
+    if 57 < u {
+        return 258;
+    }
+    digit_behind(b, u - 48)
+}
+
+fn byte_units(text: &[u16], at: usize, n: u32) -> u32
+    ensures { λ x. ⌜ readOf x ≡ byteUnits (now (text .entry)) at n fresh ⌝ }
+{
+    let mut p = at;
+    let mut more = n;
+    let mut b: u32 = 256;
+    while 0 < more {
+        b = byte_unit(b, recorder::word::unit_at(text, p));
+        p = recorder::word::behind_unit(text, p);
+        more -= 1;
+    }
+    b
+}
+
+// The byte that the argument at a place is; 256 or more if it is none.
+fn byte_of(sheet: &[u32], text: &[u16], base: u32, at: usize, left: usize) -> u32
+    ensures { λ x. ⌜ optByte x ≡ byteOf (now (text .entry)) base (exprAt (now (sheet .entry)) left at) ⌝ }
+{
+    if left == 0 {
+        return 256;
+    }
+    if recorder::word::payload_at(sheet, at) == 2 {
+        let r = expressions::expr::expr_range(sheet, at);
+        let a = rules::name::text_place(base, r.start as u32);
+        let n = rules::name::units(r);
+        byte_units(text, a as usize, n)
+    } else {
+        256
+    }
+}
+
+// A note of class 12 for what is no byte.
+fn bad_byte(notes: &mut [u32], st: St, v: u32, r: Range) -> St
+    ensures { λ x. ⌜ ((t l b : List ℕ) (base : ℕ) → mem l (now (notes .exit)) b x ≡ badByte (memR t) t base (optByte v) r (mem l (now (notes .entry)) b st)) ⌝ }
+{
+    if v < 256 {
+        st
+    } else {
+        recorder::codegen::note(notes, st, 12, r, 1)
+    }
+}
+
+// The notes for so many arguments, and the place behind them.
+fn bad_bytes(
+    sheet: &[u32],
+    text: &[u16],
+    notes: &mut [u32],
+    st: St,
+    base: u32,
+    at: usize,
+    left: usize,
+    n: u32,
+) -> Went
+    ensures { λ x. ⌜ BytesNoted (now (sheet .entry)) (now (text .entry)) base left n at (now (notes .entry)) st (now (notes .exit)) (x .st) (x .at) ⌝ }
+{
+    let mut s = st;
+    let mut p = at;
+    let mut more = n;
+    while 0 < more {
+        let v = byte_of(sheet, text, base, p, left);
+        let r = expressions::expr::expr_range(sheet, p);
+        s = bad_byte(notes, s, v, r);
+        p = sheet::expr::skip_expr(sheet, p, left);
+        more -= 1;
+    }
+    Went { st: s, at: p }
+}
+
+// Whether each of so many arguments is a byte.
+fn all_bytes(sheet: &[u32], text: &[u16], base: u32, at: usize, left: usize, n: u32) -> bool
+    ensures { λ x. ⌜ x ≡ allBytes (memR (now (text .entry))) (now (text .entry)) base (exprsAt (now (sheet .entry)) (exprAt (now (sheet .entry)) left) (skipNode (now (sheet .entry)) left Sort.Expr) n at) ⌝ }
+{
+    let mut p = at;
+    let mut more = n;
+    while 0 < more {
+        if 255 < byte_of(sheet, text, base, p, left) {
+            return false;
+        }
+        p = sheet::expr::skip_expr(sheet, p, left);
+        more -= 1;
+    }
+    true
+}
+
+// An entry of the book for a byte.
+fn load_one(book: &mut [u32], st: St, base: u32, v: u32, r: Range) -> St
+    ensures { λ x. ⌜ ((t l o : List ℕ) → mem l o (now (book .exit)) x ≡ loadByte (memR t) t base (optByte v) r (mem l o (now (book .entry)) st)) ⌝ }
+{
+    if v < 256 {
+        let a = rules::name::text_place(base, r.start as u32);
+        let n = rules::name::units(r);
+        recorder::codegen::load_byte(book, st, a, n, v)
+    } else {
+        st
+    }
+}
+
+fn load_bytes(
+    sheet: &[u32],
+    text: &[u16],
+    book: &mut [u32],
+    st: St,
+    base: u32,
+    at: usize,
+    left: usize,
+    n: u32,
+) -> St
+    ensures { λ x. ⌜ ((l o : List ℕ) → mem l o (now (book .exit)) x ≡ loadBytes (memR (now (text .entry))) (now (text .entry)) base (exprsAt (now (sheet .entry)) (exprAt (now (sheet .entry)) left) (skipNode (now (sheet .entry)) left Sort.Expr) n at) (mem l o (now (book .entry)) st)) ⌝ }
+{
+    let mut s = st;
+    let mut p = at;
+    let mut more = n;
+    while 0 < more {
+        let v = byte_of(sheet, text, base, p, left);
+        let r = expressions::expr::expr_range(sheet, p);
+        s = load_one(book, s, base, v, r);
+        p = sheet::expr::skip_expr(sheet, p, left);
+        more -= 1;
+    }
+    s
+}
+
+// From the argument behind the first on, n of them.
+fn load_node(
+    sheet: &[u32],
+    text: &[u16],
+    list: &mut [u32],
+    notes: &mut [u32],
+    book: &mut [u32],
+    st: St,
+    base: u32,
+    at: usize,
+    left: usize,
+    n: u32,
+    r: Range,
+) -> Went
+    ensures { λ x. ⌜ Loaded (now (sheet .entry)) (now (text .entry)) base left n r at (mem (now (list .entry)) (now (notes .entry)) (now (book .entry)) st) (mem (now (list .exit)) (now (notes .exit)) (now (book .exit)) (x .st)) (x .at) ⌝ }
+{
+    if n == 0 {
+        let s = recorder::codegen::note(notes, st, 6, r, 1);
+        return Went { st: s, at };
+    }
+    let x = bad_bytes(sheet, text, notes, st, base, at, left, n);
+    let xs = x.st;
+    if all_bytes(sheet, text, base, at, left, n) {
+        let first = recorder::codegen::next_byte(xs);
+        let ls = load_bytes(sheet, text, book, xs, base, at, left, n);
+        let s = recorder::codegen::emit_load_bytes(list, ls, r, first, n);
+        Went { st: s, at: x.at }
+    } else {
+        Went { st: xs, at: x.at }
+    }
+}
+
+pub fn compile_load(
+    sheet: &[u32],
+    text: &[u16],
+    list: &mut [u32],
+    notes: &mut [u32],
+    book: &mut [u32],
+    st: St,
+    base: u32,
+    at: usize,
+    left: usize,
+    k: u32,
+    r: Range,
+) -> Went
+    ensures { λ x. ⌜ Body (now (sheet .entry)) (now (text .entry)) base left Shape.Load k r at (mem (now (list .entry)) (now (notes .entry)) (now (book .entry)) st) (mem (now (list .exit)) (now (notes .exit)) (now (book .exit)) (x .st)) (x .at) ⌝ }
+{
+    let c = expressions::expr::count_at(sheet, at);
+    if c.count == 0 {
+        return Went { st, at: c.at };
+    }
+    let x = expressions::expr::compile_typed(
+        sheet,
+        text,
+        list,
+        notes,
+        book,
+        st,
+        base,
+        c.at,
+        left,
+        Type::Real,
+    );
+    let xs = x.st;
+    load_node(
+        sheet,
+        text,
+        list,
+        notes,
+        book,
+        xs,
+        base,
+        x.at,
+        left,
+        c.count - 1,
+        r,
+    )
+}
