@@ -49,6 +49,28 @@ fn main() {
     src.join("ast/expr.rs")
   );
   fs::write(out.join("texts.rs"), texts).unwrap();
+
+  library(&here);
+}
+
+/// Links the proved compiler's static library if it is there: HOLLUPSA_LIB
+/// names its folder, else it is the repository's target/staticlib.
+fn library(here: &Path) {
+  println!("cargo:rerun-if-env-changed=HOLLUPSA_LIB");
+  println!("cargo:rustc-check-cfg=cfg(library)");
+  let given = env::var("HOLLUPSA_LIB").unwrap_or_default();
+  let folder = if given.is_empty() {
+    here.join("../target/staticlib")
+  } else {
+    here.join(given)
+  };
+  let library = folder.join("libhollupsa.a");
+  println!("cargo:rerun-if-changed={}", library.display());
+  if library.exists() {
+    println!("cargo:rustc-cfg=library");
+    println!("cargo:rustc-link-search=native={}", folder.display());
+    println!("cargo:rustc-link-lib=static=hollupsa");
+  }
 }
 
 fn module(

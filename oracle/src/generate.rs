@@ -1368,6 +1368,42 @@ pub fn one_of_each(round: u64) -> Vec<Input> {
   inputs
 }
 
+/// Sheets of one expression each, printed: compound ones, with missing parts
+/// and wrong kinds among them, from a fixed seed.
+pub fn expression_sheets(count: u64) -> Vec<Input> {
+  let mut inputs = vec![];
+  for index in 0..count {
+    let mut rng = Rng::at(0x0e58, index);
+    let style = Style {
+      missing: if index % 3 == 2 { 12 } else { 0 },
+      wrong: if index % 2 == 1 { 25 } else { 0 },
+      odd_range: 0,
+      free_value: 0,
+      odd_name: 20,
+      long_text: 3,
+    };
+    let mut maker = Maker {
+      line: LineMaker::new(),
+      rng: &mut rng,
+      style,
+      labels: &[],
+      budget: 12,
+    };
+    let start = maker.line.at();
+    maker.line.put("PRINT ");
+    let want = if index % 4 == 3 { Want::Text } else { Want::Num };
+    let elem = PrintElement::Expr(maker.compound(2, want));
+    let range = maker.line.since(start);
+    let range = maker.span(range);
+    let stmt = maker.line.stmt(StmtKind::Print(SmallVec(vec![elem])), range);
+    let line = maker.line.finish(None, vec![stmt]);
+    let mut input = input_of(vec![line]);
+    lend(&mut rng, &mut input);
+    inputs.push(input);
+  }
+  inputs
+}
+
 /// The words of a sheet by kind, for the damage.
 pub fn places_of(words: &[u32], kind: u32) -> Vec<usize> {
   (0..words.len()).filter(|&at| sheet::kind(words[at]) == kind).collect()

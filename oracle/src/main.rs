@@ -17,11 +17,14 @@ pub use std::collections::HashMap;
 /// SysFuncKind has not yet stands under its name.
 pub use std::hash::Hash as FromPrimitive;
 
+mod bench;
 mod cases;
 mod check;
+mod compare;
 mod damage;
 mod form;
 mod generate;
+mod library;
 mod maker;
 mod pairs;
 mod progress;
@@ -69,6 +72,7 @@ pub mod util {
 
 include!(concat!(env!("OUT_DIR"), "/root.rs"));
 
+use compare::Plan as Options;
 use generate::Sort;
 use progress::Progress;
 use replay::Inputs;
@@ -86,9 +90,14 @@ oracle form < FILE               refusal and place by 1 to 8 alone
 oracle text < FILE               each input for people to read
 oracle check < FILE              compare with the unchanged CodeGen
 oracle stress --seed S --count N [--small]  generate, answer, check, count
+oracle compare --seed S --count N [--valid|--damaged|--mixed] [--small]
+    [--jobs J] [--out FILE]      the proved library against the Rust
+oracle lengths, as compare       the same at every length of each buffer
+oracle recheck < FILE            the same on given inputs
+oracle bench                     times of the Rust and of the library
 oracle selftest                  the tests
 generate, pairs and replay-list write the replay format, which answers, form,
-text and check read.";
+text, check and recheck read.";
 
 fn main() -> ExitCode {
   let args: Vec<String> = std::env::args().skip(1).collect();
@@ -118,7 +127,7 @@ fn command_line(command: &str, options: &[&str]) -> io::Result<bool> {
       out.write_all(replay::listing(&bytes).as_bytes())?;
     }
     "generate" => {
-      let Options { seed, count, sort, small } = parse(options)?;
+      let Options { seed, count, sort, small, .. } = parse(options)?;
       let mut progress = Progress::new("generate", count);
       for index in 0..count {
         let input = generate::generate(seed, index, sort, small);
@@ -150,8 +159,15 @@ fn command_line(command: &str, options: &[&str]) -> io::Result<bool> {
       each(command, |input| counts.check(input).map_err(io::Error::other))?;
       writeln!(out, "{counts}")?;
     }
+    "bench" => return bench::bench(&mut out),
+    "compare" => return compare::compare(&mut out, &parse(options)?),
+    "recheck" => {
+      let inputs = Inputs(BufReader::new(io::stdin().lock()));
+      return compare::recheck(&mut out, inputs);
+    }
+    "lengths" => return compare::lengths(&mut out, &parse(options)?),
     "stress" => {
-      let Options { seed, count, sort, small } = parse(options)?;
+      let Options { seed, count, sort, small, .. } = parse(options)?;
       return selftest::stress(&mut out, seed, count, sort, small);
     }
     "selftest" => return selftest::selftest(&mut out),
@@ -177,16 +193,15 @@ fn each(
   Ok(())
 }
 
-struct Options {
-  seed: u64,
-  count: u64,
-  sort: Sort,
-  small: bool,
-}
-
-fn parse(options: &[&str]) -> io::Result<Options> {
-  let mut parsed =
-    Options { seed: 1, count: 100, sort: Sort::Mixed, small: false };
+fn parse<'a>(options: &[&'a str]) -> io::Result<Options<'a>> {
+  let mut parsed = Options {
+    seed: 1,
+    count: 100,
+    sort: Sort::Mixed,
+    small: false,
+    jobs: compare::all_cores(),
+    out: "failing.replay",
+  };
   let mut options = options.iter();
   while let Some(option) = options.next() {
     let mut number = || {
@@ -202,6 +217,11 @@ fn parse(options: &[&str]) -> io::Result<Options> {
       "--damaged" => parsed.sort = Sort::Damaged,
       "--mixed" => parsed.sort = Sort::Mixed,
       "--small" => parsed.small = true,
+      "--jobs" => parsed.jobs = number()?.max(1) as usize,
+      "--out" => {
+        let wanted = || io::Error::other("--out wants a file");
+        parsed.out = options.next().copied().ok_or_else(wanted)?;
+      }
       _ => return Err(io::Error::other(format!("unknown option {option}"))),
     }
   }

@@ -408,6 +408,7 @@ pub fn replay_list() -> Vec<Input> {
   for round in 0..10 {
     all.extend(generate::one_of_each(round));
   }
+  all.extend(generate::expression_sheets(400));
   let parts = [
     (101, 600, Sort::Valid, true),
     (102, 500, Sort::Valid, false),

@@ -11,7 +11,7 @@ const LISTING_LIMIT: usize = 2048;
 
 /// Reads a program's input: word count, unit count, words, units. None if it
 /// is above the limit or short. Bytes behind are ignored.
-fn program_input(bytes: &[u8]) -> Option<Input> {
+pub fn program_input(bytes: &[u8]) -> Option<Input> {
   let mut bytes = bytes;
   let words = take_u32(&mut bytes)? as usize;
   let units = take_u32(&mut bytes)? as usize;

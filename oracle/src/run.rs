@@ -47,6 +47,14 @@ pub struct Compiled {
   pub one_quotes: usize,
 }
 
+impl Compiled {
+  /// How many records, notes and entries.
+  pub fn counts(&self) -> [usize; 3] {
+    let Recorder { records, entries, .. } = &self.recorder;
+    [records.len(), self.notes.len(), entries.len()]
+  }
+}
+
 pub enum Answer {
   Refused(Refusal),
   Accepted(Compiled),

@@ -3,6 +3,7 @@
 use crate::ast::*;
 use crate::cases;
 use crate::check;
+use crate::compare;
 use crate::form;
 use crate::generate::{self, Sort};
 use crate::maker::{decimal, value};
@@ -23,7 +24,7 @@ include!(concat!(env!("OUT_DIR"), "/texts.rs"));
 
 pub fn selftest(out: &mut impl Write) -> io::Result<bool> {
   type Test = fn() -> Result<String, String>;
-  let tests: [(&str, Test); 16] = [
+  let tests: [(&str, Test); 17] = [
     ("tables follow the enums of stmt.rs and expr.rs", tables),
     ("the worked example", worked_example),
     ("the pairs to run", pairs_to_run),
@@ -40,6 +41,7 @@ pub fn selftest(out: &mut impl Write) -> io::Result<bool> {
     ("buffers just long enough and one short", buffers),
     ("generated inputs, with CodeGen beside", generated),
     ("the replay list covers all", replay_list),
+    ("the comparison tells every change", compare::tells_changes),
   ];
   let mut failed = 0;
   for (name, test) in tests {
@@ -57,7 +59,9 @@ pub fn selftest(out: &mut impl Write) -> io::Result<bool> {
 }
 
 /// Runs something; a panic becomes an error.
-fn guarded<T>(action: impl FnOnce() -> Result<T, String>) -> Result<T, String> {
+pub fn guarded<T>(
+  action: impl FnOnce() -> Result<T, String>,
+) -> Result<T, String> {
   panic::catch_unwind(AssertUnwindSafe(action)).unwrap_or_else(|panic| {
     let said = panic
       .downcast_ref::<String>()
@@ -583,6 +587,7 @@ impl Seen {
     };
     self.accepted += 1;
     self.one_quotes += made.one_quotes;
+    compare::bounds(input.words.len(), made.counts())?;
     names_spelled(&made.recorder, &input.units)?;
     places_known(&made.recorder, input)?;
     for record in &made.recorder.records {

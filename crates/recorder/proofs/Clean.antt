@@ -32,7 +32,7 @@ close-keeps f h (r ∷ rs) k zero = go (isWhile r) (endFrom rs 0 (suc k))
     go false o = refl
 close-keeps f h (r ∷ rs) k (suc j) = close-keeps f h rs (suc k) j
 
-close-length : (rs : List Rec) (k : ℕ) → length (closeWhiles rs k) ≡ length rs
+pub close-length : (rs : List Rec) (k : ℕ) → length (closeWhiles rs k) ≡ length rs
 unfolding closeWhiles
 close-length [] k = refl
 close-length (r ∷ rs) k = ap suc (close-length rs (suc k))
@@ -83,7 +83,7 @@ stepped-length rs k =
     ∙ change-length sleep (change noOp (change wholeEnd (change noOp rs k) (k + 1)) (k + 2)) (k + 3)
     ∙ change-length noOp (change wholeEnd (change noOp rs k) (k + 1)) (k + 2) ∙ change-length wholeEnd (change noOp rs k) (k + 1) ∙ change-length noOp rs k
 
-delay-length : (rs : List Rec) (k : ℕ) → length (delayFrom rs k) ≡ length rs
+pub delay-length : (rs : List Rec) (k : ℕ) → length (delayFrom rs k) ≡ length rs
 unfolding delayFrom
 delay-length rs k = go (isDelay rs k) (isSteppedDelay rs k)
   where

@@ -2,9 +2,6 @@ pub mod Laws
 pub mod Lift
 pub mod Words
 pub mod Hide
-pub mod MarkLaws
-pub mod MarkSearch
-pub mod ClosingLaws
 pub mod Simulation
 pub mod Sim
 pub mod Change

@@ -6,4 +6,3 @@ pub mod Marks
 pub mod Closing
 pub mod Layout
 pub mod Mem
-pub mod MarkWords

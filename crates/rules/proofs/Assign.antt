@@ -18,7 +18,7 @@ use Rattle.rules.specs.Missing.{All}
 use Rattle.rules.specs.Piles.{num, Pile, operands, wantsOf, taken, step}
 use Rattle.rules.specs.Demand.{targets, isIn, someBelow, callAt, fromOn, fromNext, insideOn, fromReturn, fromWend, reached, pileAt, Fits, Orderly, ExactlyOne}
 use Rattle.rules.proofs.BoolLaws.{both-left, both-right}
-use Rattle.rules.proofs.PileLaws.{andThen, pileIn, quietCall, isJumpCall, all-map}
+use Rattle.rules.proofs.PileLaws.{andThen, pileIn, quietCall, isJumpCall, Ahead, ahead-append, ahead-at, all-map}
 use Rattle.rules.proofs.Blocks.{Body, body-left, pile-none, pile-left}
 use Rattle.rules.proofs.Traces.{Trace, trace-at, trace-step, trace-quiet, trace-each, trace-on, trace-append}
 use Rattle.rules.proofs.ClosingPiles.{Full}
@@ -231,23 +231,27 @@ module _ (E : List Entry) (X Y : ℕ → Type 0) (rs : List Rec) (tr : Trace E (
       ext-getD [] qs ps (q .size ∙ sym (piles-length E rs []))
       (λ k h. same-piles qs q (fits n) k (omega (arith, h, q .size)))
 
-  empty-pile : (T : ℕ) → X T → pileAt ps T ≡ []
-  empty-pile T x = piles-empty E rs [] T (good T x .1)
+  empty-pile : (T : ℕ) → X T → (T < length rs) × (pileAt ps T ≡ [])
+  empty-pile T x = (good T x .0, piles-empty E rs [] T (good T x .1))
 
-  module _ (bodies : (T : ℕ) → Y T → Body E 0 rs T) where
+  module _ (bodies : (T : ℕ) → Y T → Body E 0 rs T) (ahead : Ahead 0 rs) where
     body-at : (k : ℕ) → k < length rs → recAt rs k .call ≡ 26 → Body E 0 rs (recAt rs k .c)
     body-at k h e = bodies (recAt rs k .c) (trace-each tr k h .body e)
 
     body-place : (T : ℕ) (b : Body E 0 rs T) → T - 1 ≡ b .at
     body-place T b = omega (arith, b .place)
 
+    -- the 27 is behind its 26
+    body-behind : (k : ℕ) (h : k < length rs) (e : recAt rs k .call ≡ 26) → k < body-at k h e .at
+    body-behind k h e = let b = body-at k h e in omega (arith, ahead-at 0 rs k h ahead e, b .place)
+
     pub orderly : (edges : List ℕ) → All X edges → Orderly edges rs ps
     orderly edges a = record {
-      statements = all-map X (λ (k : ℕ). pileAt ps k ≡ []) edges empty-pile a;
-      bodyBegins = λ k h e. rw (add-one k) (piles-empty E rs [] (suc k) (trace-quiet tr k h (rw e refl)));
-      bodyCloses = λ k h e. let b = body-at k h e in rw (body-place (recAt rs k .c) b) (b .closes);
+      statements = all-map X (λ (k : ℕ). (k < length rs) × (pileAt ps k ≡ [])) edges empty-pile a;
+      bodyBegins = λ k h e. (omega (arith, body-behind k h e, body-at k h e .within), rw (add-one k) (piles-empty E rs [] (suc k) (trace-quiet tr k h (rw e refl))));
+      bodyCloses = λ k h e. let b = body-at k h e in rw (body-place (recAt rs k .c) b) (body-behind k h e, b .within, b .closes);
       bodyEnds = λ k h e. let b = body-at k h e in rw (body-place (recAt rs k .c) b) (piles-at E rs [] (num ∷ []) (b .at) (b .within) (b .pile));
-      onTargets = λ k h. all-map X (λ (v : ℕ). (v < length rs) × (pileAt ps v ≡ [])) (targets (recAt rs k)) (λ v x. (good v x .0, empty-pile v x)) (trace-each tr k h .targets);
+      onTargets = λ k h. all-map X (λ (v : ℕ). (v < length rs) × (pileAt ps v ≡ [])) (targets (recAt rs k)) empty-pile (trace-each tr k h .targets);
     }
 
     pub exactly-one : (edges : List ℕ) → 0 < length rs → All X edges → ExactlyOne edges E rs
@@ -259,7 +263,7 @@ unfolding step wantsOf taken operands
 end-step E l = refl
 
 pub finished-piles : (E : List Entry) (X Y : ℕ → Type 0) (rs : List Rec) (l : ℕ) (edges : List ℕ) → Sound E X Y rs → All X edges → ExactlyOne edges E (rs ++ (endRec l ∷ []))
-finished-piles E X Y rs l edges s a = exactly-one E X Y us tr good bodies edges (omega (arith, long)) a
+finished-piles E X Y rs l edges s a = exactly-one E X Y us tr good bodies ahead edges (omega (arith, long)) a
   where
     us : List Rec
     us = rs ++ (endRec l ∷ [])
@@ -278,3 +282,6 @@ finished-piles E X Y rs l edges s a = exactly-one E X Y us tr good bodies edges 
 
     bodies : (T : ℕ) → Y T → Body E 0 us T
     bodies T y = body-left E 0 rs (endRec l ∷ []) T (s .bodies T y)
+
+    ahead : Ahead 0 us
+    ahead = ahead-append 0 (length rs) rs (endRec l ∷ []) (omega arith) (s .ahead) (λ e. absurd (omega arith), tt)

@@ -16,13 +16,18 @@ use Rattle.rules.specs.Stmt.{compileDef, endDef, compileWhile, ifJump, e
 use Rattle.rules.specs.Missing.{All, Present, WholeExpr, WholeStmt, WholeStmts}
 use Rattle.rules.specs.Piles.{num, Pile, taken, wantsOf, step}
 use Rattle.rules.specs.Demand.{stmtEdges, stmtsEdges}
-use Rattle.rules.proofs.PileLaws.{Flow, Side, Plain, plain-one, plain-flow, flow-append, flow-map, flow-run, all-map, all-append, run, pileIn}
+use Rattle.rules.proofs.PileLaws.{Flow, Side, Never, Plain, Ahead, ahead-append, flow-ahead, plain-one, plain-flow, flow-append, flow-map, flow-run, all-map, all-append, run, pileIn}
 use Rattle.rules.proofs.Grown.{Code, seq, put, stay, fails, void, with-ok, longer, patched, change-at}
 use Rattle.rules.proofs.ExprPiles.{Few, real-code, name-code}
 use Rattle.rules.proofs.Blocks.{Empty, Body, Good, good-nil, good-append, good-plain, good-stmt, empty-left, empty-right, body-left, body-right, first-empty, last-empty, pile-left, pile-right, pile-end}
 use Rattle.rules.proofs.OpPiles
 use Rattle.rules.proofs.OpPiles.{IsPlace, IsInput, AllExprs, FormedElement, PlainOp, DrawOp, SetOp, pushed}
 use Rattle.rules.proofs.StmtPiles
+
+-- a list that is not empty
+abbrev pub Some : {A : Type 0} → List A → Type 0
+Some [] = ⊥
+Some (x ∷ xs) = Unit {0}
 
 -- what the form of the sheet says of a statement
 abbrev mutual
@@ -55,7 +60,7 @@ abbrev mutual
   FormedStmt (swap r a b) = IsPlace a × IsPlace b
   FormedStmt (system r) = Unit {0}
   FormedStmt (while r e) = Unit {0}
-  FormedStmt (write r f ds) = Unit {0}
+  FormedStmt (write r f ds) = Some ds
 
   pub FormedStmts : Stmts → Type 0
   FormedStmts end = Unit {0}
@@ -78,6 +83,7 @@ module _ (E : List Entry) where
         flow = flow-append (plain-flow E (Empty E B ys) (Body E B ys) xs [] (num ∷ []) a)
             (Flow.go (while-step l r B b c) (record { quiet = λ q. refl; fixed = (first-empty E B ys, tt); body = λ q. absurd (omega arith); on = λ q. absurd (omega arith) }) Flow.done);
         edges = tt;
+        ahead = ahead-append B (B + length xs) xs (rec 25 l r B b c ∷ []) refl (flow-ahead B a) (λ q. absurd (omega arith), tt);
       }
 
   -- DEF: the body stands between a 26 and a 27
@@ -102,6 +108,7 @@ module _ (E : List Entry) where
       record {
         flow = Flow.go (def-step l r n p T) (side T h) (plain-flow E (Empty E B (q ∷ ys)) (Body E B (q ∷ ys)) ys [] [] body);
         edges = tt;
+        ahead = (λ e. omega arith, flow-ahead (suc B) body);
       }
     where
       side : (T : ℕ) → T ≡ B + length xs + 2 → Side (Empty E B (rec 26 l r n p T ∷ (xs ++ (rec 27 m r 0 0 0 ∷ [])))) (Body E B (rec 26 l r n p T ∷ (xs ++ (rec 27 m r 0 0 0 ∷ [])))) (rec 26 l r n p T) [] (xs ++ (rec 27 m r 0 0 0 ∷ []))
@@ -144,6 +151,9 @@ module _ (E : List Entry) where
   test-run : (l : ℕ) (r : Range) (T : ℕ) (ce : List Rec) → Plain E ce [] (num ∷ []) → run E (ce ++ (rec 19 l r T 0 0 ∷ [])) [] ≡ given []
   test-run l r T ce a = flow-run (test-flow (λ v. Unit {0}) (λ v. Unit {0}) l r T ce tt a)
 
+  test-ahead : (B l : ℕ) (r : Range) (T : ℕ) (ce : List Rec) → Plain E ce [] (num ∷ []) → Ahead B (ce ++ (rec 19 l r T 0 0 ∷ []))
+  test-ahead B l r T ce a = flow-ahead B (test-flow (λ v. Unit {0}) Never l r T ce tt a)
+
   over-flow : (X Y : ℕ → Type 0) (l : ℕ) (r : Range) (T : ℕ) → X T → Flow E X Y (rec 20 l r T 0 0 ∷ []) [] []
   over-flow X Y l r T x = Flow.go (over-step l r T) (record { quiet = λ q. refl; fixed = (x, tt); body = λ q. absurd (omega arith); on = λ q. absurd (omega arith) }) Flow.done
 
@@ -158,6 +168,7 @@ module _ (E : List Entry) where
         flow = flow-append (test-flow (Empty E B (xs ++ ct)) (Body E B (xs ++ ct)) l r T ce at a)
             (flow-map (λ U. empty-right E B (B + length ce + 1) xs ct U off ru) (λ U. body-right E B (B + length ce + 1) xs ct U off ru) (b .flow));
         edges = all-map (Empty E (B + length ce + 1) ct) (Empty E B (xs ++ ct)) ms (λ U. empty-right E B (B + length ce + 1) xs ct U off ru) (b .edges);
+        ahead = ahead-append B (B + length ce + 1) xs ct off (test-ahead B l r T ce a) (b .ahead);
       }
 
   good-else : (B l m : ℕ) (r : Range) (T₁ T₂ : ℕ) (ms ns : List ℕ) (ce ct cf : List Rec) → T₁ ≡ B + length ce + length ct + 2 → T₂ ≡ T₁ + length cf
@@ -169,6 +180,8 @@ module _ (E : List Entry) where
       record {
         flow = flow-append (flow-append (test-flow X Y l r T₁ ce at₁ a) (flow-append (flow-map in-then body-then (b .flow)) (over-flow X Y m r T₂ at₂))) (flow-map in-else body-else (c .flow));
         edges = all-append X ms ns (all-map (Empty E C ct) X ms in-then (b .edges)) (all-map (Empty E T₁ cf) X ns in-else (c .edges));
+        ahead = ahead-append B T₁ (xs ++ ys) cf offy (ahead-append B C xs ys offx (test-ahead B l r T₁ ce a)
+            (ahead-append C (C + length ct) ct (rec 20 m r T₂ 0 0 ∷ []) refl (b .ahead) (λ q. absurd (omega arith), tt))) (c .ahead);
       }
     where
       C : ℕ

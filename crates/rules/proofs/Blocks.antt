@@ -13,7 +13,7 @@ use Rattle.recorder.specs.Ideal.{Rec, noRec, Entry}
 use Rattle.sheet.specs.Tree.{Opt, absent, given}
 use Rattle.rules.specs.Missing.{All}
 use Rattle.rules.specs.Piles.{num, Pile, step}
-use Rattle.rules.proofs.PileLaws.{andThen, run, pileIn, Side, Flow, Never, Plain, all-map, all-append, flow-append, flow-map, flow-run, plain-flow}
+use Rattle.rules.proofs.PileLaws.{andThen, run, pileIn, Side, Flow, Never, Plain, Ahead, ahead-append, flow-ahead, all-map, all-append, flow-append, flow-map, flow-run, plain-flow}
 
 module _ (E : List Entry) where
   -- the pile inside a list, by its parts
@@ -108,9 +108,10 @@ module _ (E : List Entry) where
   pub record Good (B : ℕ) (ms : List ℕ) (xs : List Rec) : Type 0 where
     pub flow : Flow E (Empty B xs) (Body B xs) xs [] []
     pub edges : All (Empty B xs) ms
+    pub ahead : Ahead B xs
 
   pub good-nil : (B : ℕ) → Good B [] []
-  good-nil B = record { flow = Flow.done; edges = tt }
+  good-nil B = record { flow = Flow.done; edges = tt; ahead = tt }
 
   pub good-append : (B C : ℕ) (ms ns : List ℕ) (xs ys : List Rec) → C ≡ B + length xs → Good B ms xs → Good C ns ys → Good B (ms ++ ns) (xs ++ ys)
   good-append B C ms ns xs ys h a b =
@@ -120,14 +121,15 @@ module _ (E : List Entry) where
             (flow-map (λ T. empty-right B C xs ys T h r) (λ T. body-right B C xs ys T h r) (b .flow));
         edges = all-append (Empty B (xs ++ ys)) ms ns (all-map (Empty B xs) (Empty B (xs ++ ys)) ms (empty-left B xs ys) (a .edges))
             (all-map (Empty C ys) (Empty B (xs ++ ys)) ns (λ T. empty-right B C xs ys T h r) (b .edges));
+        ahead = ahead-append B C xs ys h (a .ahead) (b .ahead);
       }
 
   pub good-plain : (B : ℕ) (xs : List Rec) → Plain E xs [] [] → Good B [] xs
-  good-plain B xs a = record { flow = plain-flow E (Empty B xs) (Body B xs) xs [] [] a; edges = tt }
+  good-plain B xs a = record { flow = plain-flow E (Empty B xs) (Body B xs) xs [] [] a; edges = tt; ahead = flow-ahead B a }
 
   -- a statement: where it begins and ends is empty
   pub good-stmt : (B C : ℕ) (ms : List ℕ) (xs : List Rec) → C ≡ B + length xs → Good B ms xs → Good B (B ∷ C ∷ ms) xs
-  good-stmt B C ms xs h a = record { flow = a .flow; edges = (first-empty B xs, (last-empty B C xs h (flow-run (a .flow)), a .edges)) }
+  good-stmt B C ms xs h a = record { flow = a .flow; edges = (first-empty B xs, (last-empty B C xs h (flow-run (a .flow)), a .edges)); ahead = a .ahead }
 
 -- a record behind which the pile is empty, and that has no targets and is no ON
 abbrev pub soloCall : ℕ → Bool

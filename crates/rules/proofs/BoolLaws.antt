@@ -24,3 +24,7 @@ not-both false b e f = refl
 pub either-of : (a b : Bool) → either a b ≡ true → (a ≡ true) ⊎ (b ≡ true)
 either-of true b e = inl e
 either-of false b e = inr e
+
+pub neither : (a b : Bool) → either a b ≡ false → (a ≡ false) × (b ≡ false)
+neither true b e = no-one (sym e)
+neither false b e = (refl, e)

@@ -35,7 +35,7 @@ pub record Pass (i f : Ideal) (rs : List Rec) (G : Type 0) : Type 0 where
   pub entries : f .entries ≡ i .entries
   pub ok : NoError fresh → G
 
-abbrev settleRec : Search → Rec → Rec
+abbrev pub settleRec : Search → Rec → Rec
 settleRec (found v) r = settled v r
 settleRec missing r = unsettled r
 
@@ -174,12 +174,14 @@ module _ (E : List Entry) (X Y : ℕ → Type 0) where
         steps = same-step r v 0 0 20 q (inl refl);
         call = refl;
         count = λ z. absurd (omega (arith, q));
+        end = λ z. absurd (omega (arith, q));
         asked = λ z. record { fixed = record { fixed = rw q (x, tt); body = λ y. absurd (omega (arith, q)) }; settled = λ y. refl };
       }
       go (inr q) = record {
         steps = same-step r v 0 0 21 q (inr (inl refl));
         call = refl;
         count = λ z. absurd (omega (arith, q));
+        end = λ z. absurd (omega (arith, q));
         asked = λ z. record { fixed = record { fixed = rw q (x, tt); body = λ y. absurd (omega (arith, q)) }; settled = λ y. refl };
       }
 
@@ -191,6 +193,7 @@ module _ (E : List Entry) (X Y : ℕ → Type 0) where
         steps = λ P. refl;
         call = refl;
         count = λ z. refl;
+        end = λ z. refl;
         asked = λ z. record { fixed = z; settled = λ j. let n = ltb-false 0 (r .b) (not-both (ltb 0 (r .b)) (isJumpCall (r .call)) p j) in omega (arith, n) };
       }
       go true p (found v) q g = jump-alike v r (both-right (ltb 0 (r .b)) (isJumpCall (r .call)) p) (found-mark X ms (r .b - 1) v a q)
@@ -201,6 +204,7 @@ module _ (E : List Entry) (X Y : ℕ → Type 0) where
     steps = same-step r v 0 0 31 q (inr (inr (inl refl)));
     call = refl;
     count = λ z. absurd (omega (arith, q));
+    end = λ z. absurd (omega (arith, q));
     asked = λ z. record { fixed = record { fixed = rw q tt; body = λ y. absurd (omega (arith, q)) }; settled = λ y. refl };
   }
 
@@ -208,7 +212,7 @@ module _ (E : List Entry) (X Y : ℕ → Type 0) where
   restore-alike ms r = go (isPendingRestore (lookOf r)) refl (dataOf ms (r .b - 1))
     where
       go : (p : Bool) → isPendingRestore (lookOf r) ≡ p → (s : Search) → Alike E (Aimed X Y) (Aimed X Y) r (pick p (settleRec s r) r)
-      go false p s = record { steps = λ P. refl; call = refl; count = λ z. refl; asked = λ z. z }
+      go false p s = record { steps = λ P. refl; call = refl; count = λ z. refl; end = λ z. refl; asked = λ z. z }
       go true p (found v) = restore-call r v (eqb-true (r .call) 31 (both-right (ltb 0 (r .b)) (eqb (r .call) 31) p))
       go true p missing = restore-call r (r .a) (eqb-true (r .call) 31 (both-right (ltb 0 (r .b)) (eqb (r .call) 31) p))
 
@@ -250,6 +254,7 @@ module _ (E : List Entry) (X Y : ℕ → Type 0) where
         steps = same-step r (r .a) e (r .c) 25 q (inr (inr (inr refl)));
         call = refl;
         count = λ z. absurd (omega (arith, q));
+        end = λ z. absurd (omega (arith, q));
         asked = λ z. record { targets = rw q (first q (z .fixed .fixed), (x, tt)); body = λ y. absurd (omega (arith, q)) };
       }
     where
@@ -257,7 +262,7 @@ module _ (E : List Entry) (X Y : ℕ → Type 0) where
       first q a = (rw q at a) .0
 
   other-alike : (r : Rec) → eqb (r .call) 25 ≡ false → Alike E (Aimed X Y) (Full X Y) r r
-  other-alike r w = record { steps = λ P. refl; call = refl; count = λ z. refl; asked = λ z. record { targets = all-targets r w z; body = z .fixed .body } }
+  other-alike r w = record { steps = λ P. refl; call = refl; count = λ z. refl; end = λ z. refl; asked = λ z. record { targets = all-targets r w z; body = z .fixed .body } }
 
   -- the end of a WHILE is one past a WEND
   end-found : (rs : List Rec) (m k e : ℕ) → endFrom rs m k ≡ found e → (j : ℕ) × (j < length rs) × (isWend (getD rs j noRec) ≡ true) × (e ≡ suc (k + j))

@@ -3,7 +3,7 @@ use mathlib.Core.Path.{_≡_, refl, sym, ap, _∙_, subst}
 use mathlib.Core.List.{List, [], _∷_, _++_}
 use mathlib.Core.Bool.{Bool, true, false}
 use mathlib.Core.Logic.{_⊎_, inl, inr}
-use Prim.Native.Nat.{ℕ, zero, suc, _+_, _≤_}
+use Prim.Native.Nat.{ℕ, zero, suc, _+_, _≤_, _<_}
 use lib.Dec.{eqb, ltb}
 use lib.ListN.{length, getD, take, drop, take-append-drop}
 use lib.Seq.{getD-append-add, length-take-le}
@@ -12,54 +12,40 @@ use native.Mathlib.Omega.{arith}
 use Rattle.recorder.specs.Word.{pick, both, either}
 use Rattle.recorder.specs.Ideal.{Rec, noRec, Entry, change}
 use Rattle.recorder.specs.Closing.{isZero, isOne, isStart, isEnd, isFor, isNextOf, recAt, isDelay, isSteppedDelay, noOp, sleep, wholeEnd, delayed, steppedDelayed, delayFrom, delays}
+use Rattle.recorder.proofs.Clean.{delay-length}
 use Rattle.sheet.specs.Tree.{absent, given}
 use Rattle.rules.specs.Tables.{operand}
 use Rattle.rules.specs.Piles.{Kind, num, txt, plc, Pile, kindOf, symbolType, operands, wantsOf, taken, step}
 use Rattle.rules.specs.Demand.{targets}
 use Rattle.rules.proofs.BoolLaws.{no-one, both-left, both-right, either-of}
-use Rattle.rules.proofs.PileLaws.{pileIn, isJumpCall, Jumps}
+use Rattle.rules.proofs.PileLaws.{pileIn, isJumpCall, Jumps, Ahead}
 use Rattle.rules.proofs.Blocks.{Empty, Body}
-use Rattle.rules.proofs.Grown.{change-append, change-length}
+use Rattle.rules.proofs.Grown.{change-append}
 use Rattle.rules.proofs.Traces.{Quiet, Trace}
 use Rattle.rules.proofs.ClosingPiles.{Full}
 
-start-call : (r : Rec) → isStart r ≡ true → r .call ≡ 3
+pub start-call : (r : Rec) → isStart r ≡ true → r .call ≡ 3
 start-call r e = go (either-of (isZero r) (isOne r) e)
   where
     go : (isZero r ≡ true) ⊎ (isOne r ≡ true) → r .call ≡ 3
     go (inl q) = eqb-true (r .call) 3 (both-left (eqb (r .call) 3) (eqb (r .a) 0) q)
     go (inr q) = eqb-true (r .call) 3 (both-left (eqb (r .call) 3) (both (eqb (r .a) 129) (eqb (r .b) 2147483648)) q)
 
-one-call : (r : Rec) → isOne r ≡ true → r .call ≡ 3
+pub one-call : (r : Rec) → isOne r ≡ true → r .call ≡ 3
 one-call r q = eqb-true (r .call) 3 (both-left (eqb (r .call) 3) (both (eqb (r .a) 129) (eqb (r .b) 2147483648)) q)
 
-end-call : (r : Rec) → isEnd r ≡ true → (r .call ≡ 3) ⊎ (r .call ≡ 5)
+pub end-call : (r : Rec) → isEnd r ≡ true → (r .call ≡ 3) ⊎ (r .call ≡ 5)
 end-call r e = go (either-of (both (eqb (r .call) 3) (ltb 0 (r .a))) (eqb (r .call) 5) e)
   where
     go : (both (eqb (r .call) 3) (ltb 0 (r .a)) ≡ true) ⊎ (eqb (r .call) 5 ≡ true) → (r .call ≡ 3) ⊎ (r .call ≡ 5)
     go (inl q) = inl (eqb-true (r .call) 3 (both-left (eqb (r .call) 3) (ltb 0 (r .a)) q))
     go (inr q) = inr (eqb-true (r .call) 5 q)
 
-for-call : (n : ℕ) (r : Rec) → isFor n r ≡ true → (r .call ≡ 23) × (r .b ≡ n)
+pub for-call : (n : ℕ) (r : Rec) → isFor n r ≡ true → (r .call ≡ 23) × (r .b ≡ n)
 for-call n r e = (eqb-true (r .call) 23 (both-left (eqb (r .call) 23) (eqb (r .b) n) e), eqb-true (r .b) n (both-right (eqb (r .call) 23) (eqb (r .b) n) e))
 
-next-call : (f r : Rec) → isNextOf f r ≡ true → r .call ≡ 24
+pub next-call : (f r : Rec) → isNextOf f r ≡ true → r .call ≡ 24
 next-call f r e = eqb-true (r .call) 24 (both-left (eqb (r .call) 24) (either (eqb (r .a) 0) (eqb (r .a) (f .a + 1))) e)
-
--- the number of records stays
-delay-length : (rs : List Rec) (k : ℕ) → length (delayFrom rs k) ≡ length rs
-unfolding delayFrom
-delay-length rs k = go (isDelay rs k) (isSteppedDelay rs k)
-  where
-    go : (a b : Bool) → length (pick a (delayed rs k) (pick b (steppedDelayed rs k) rs)) ≡ length rs
-    go true b = simp change-length
-    go false true = simp change-length
-    go false false = refl
-
-pub delays-length : (n k : ℕ) (rs : List Rec) → length (delays n k rs) ≡ length rs
-unfolding delays
-delays-length zero k rs = refl
-delays-length (suc n) k rs = delays-length n (k + 1) (delayFrom rs k) ∙ delay-length rs k
 
 module _ (E : List Entry) where
   step-number : (r : Rec) → r .call ≡ 3 → (P : Pile) → step E r P ≡ given (num ∷ P)
@@ -126,7 +112,7 @@ module _ (E : List Entry) where
     sleep-full : (r : Rec) → Full X Y (sleep r)
     sleep-full r = record { targets = tt; body = λ q. absurd (omega arith) }
 
-    -- a list in the place of another: empty places stay empty, functions' bodies stay
+    -- a list in the place of another: empty places stay empty, functions' bodies stay where they are
     pub record Swap (A B : List Rec) : Type 0 where
       pub long : length B ≡ length A
       pub jumps : (n : ℕ) → Jumps n A → Jumps n B
@@ -134,12 +120,13 @@ module _ (E : List Entry) where
       pub empties : (M U : Pile) → Trace E Z A M U → (m : ℕ) → pileIn E A M m ≡ given [] → pileIn E B M m ≡ given []
       pub bodies : (M U : Pile) → Trace E Z A M U → (m : ℕ) → getD A m noRec .call ≡ 27 → pileIn E A M m ≡ given (num ∷ [])
           → (getD B m noRec .call ≡ 27) × (pileIn E B M m ≡ given (num ∷ []))
+      pub ahead : (at : ℕ) → Ahead at A → Ahead at B
 
     swap-same : (A : List Rec) → Swap A A
-    swap-same A = record { long = refl; jumps = λ n j. j; trace = λ M U a. a; empties = λ M U a m e. e; bodies = λ M U a m c e. (c, e) }
+    swap-same A = record { long = refl; jumps = λ n j. j; trace = λ M U a. a; empties = λ M U a m e. e; bodies = λ M U a m c e. (c, e); ahead = λ at a. a }
 
     swap-cons : (r : Rec) (A B : List Rec) → Swap A B → Swap (r ∷ A) (r ∷ B)
-    swap-cons r A B s = record { long = ap suc (s .long); jumps = jumps; trace = trace; empties = empties; bodies = bodies }
+    swap-cons r A B s = record { long = ap suc (s .long); jumps = jumps; trace = trace; empties = empties; bodies = bodies; ahead = λ at a. (a .0, s .ahead (suc at) (a .1)) }
       where
         jumps : (n : ℕ) → Jumps n (r ∷ A) → Jumps n (r ∷ B)
         jumps zero j = tt
@@ -225,9 +212,16 @@ module _ (E : List Entry) where
         end-full (inl e) = bare-full (wholeEnd r₁) 3 e (inr (inl refl))
         end-full (inr e) = bare-full (wholeEnd r₁) 5 e (inr (inr refl))
 
-    not-27 : {W : Type 0} (r : Rec) → (r .call ≡ 3) ⊎ (r .call ≡ 5) → r .call ≡ 27 → W
-    not-27 r (inl e) q = absurd (omega (arith, e, q))
-    not-27 r (inr e) q = absurd (omega (arith, e, q))
+    not-end : {W : Type 0} (r : Rec) → (r .call ≡ 3) ⊎ (r .call ≡ 5) → 5 < r .call → W
+    not-end r (inl e) q = absurd (omega (arith, e, q))
+    not-end r (inr e) q = absurd (omega (arith, e, q))
+
+    -- a window has no function
+    no-ahead : {at : ℕ} (r : Rec) → r .call < 5 → r .call ≡ 26 → at < r .c
+    no-ahead r h e = absurd (omega (arith, h, e))
+
+    end-ahead : {at : ℕ} (r : Rec) → Ends r → wholeEnd r .call ≡ 26 → at < wholeEnd r .c
+    end-ahead r f e = not-end (wholeEnd r) (f .call) (omega (arith, e))
 
     pile-one : (r : Rec) (k : Kind) (rs : List Rec) (M : Pile) → step E r M ≡ given (k ∷ M) → pileIn E (r ∷ rs) M 1 ≡ given [] → {W : Type 0} → W
     unfolding pileIn
@@ -245,6 +239,7 @@ module _ (E : List Entry) where
       trace = λ M U a. four-trace r₀ r₁ r₂ r₃ back M U f (passed r₀ r₁ r₂ r₃ back M U f a);
       empties = λ M U a. empties M U (passed r₀ r₁ r₂ r₃ back M U f a);
       bodies = λ M U a. bodies M U (passed r₀ r₁ r₂ r₃ back M U f a);
+      ahead = λ at a. (no-ahead (noOp r₀) (omega arith), (end-ahead r₁ (f .c₁), (no-ahead (sleep r₂) (omega arith), (no-ahead (noOp r₃) (omega arith), a .1 .1 .1 .1))));
     }
       where
         old : List Rec
@@ -267,7 +262,7 @@ module _ (E : List Entry) where
 
         bodies : (M U : Pile) → Passed (f .c₁ .kind) back M U → (m : ℕ) → getD old m noRec .call ≡ 27 → pileIn E old M m ≡ given (num ∷ []) → (getD new m noRec .call ≡ 27) × (pileIn E new M m ≡ given (num ∷ []))
         bodies M U p zero c h = absurd (omega (arith, f .c₀, c))
-        bodies M U p (suc zero) c h = not-27 r₁ (f .c₁ .old) c
+        bodies M U p (suc zero) c h = not-end r₁ (f .c₁ .old) (omega (arith, c))
         bodies M U p (suc (suc zero)) c h = absurd (omega (arith, f .c₂, c))
         bodies M U p (suc (suc (suc zero))) c h = absurd (omega (arith, f .c₃, c))
         bodies M U p (suc (suc (suc (suc m)))) c h = (c, four-new r₀ r₁ r₂ r₃ back M f (p .number) m .0 ∙ sym (four-old r₀ r₁ r₂ r₃ back M f (p .number) m) ∙ h)
@@ -336,6 +331,7 @@ module _ (E : List Entry) where
       trace = λ M U a. five-trace r₀ r₁ r₂ r₃ r₄ back M U f (passed-five r₀ r₁ r₂ r₃ r₄ back M U f a);
       empties = λ M U a. empties M U (passed-five r₀ r₁ r₂ r₃ r₄ back M U f a);
       bodies = λ M U a. bodies M U (passed-five r₀ r₁ r₂ r₃ r₄ back M U f a);
+      ahead = λ at a. (no-ahead (noOp r₀) (omega arith), (end-ahead r₁ (f .c₁), (no-ahead (noOp r₂) (omega arith), (no-ahead (sleep r₃) (omega arith), (no-ahead (noOp r₄) (omega arith), a .1 .1 .1 .1 .1)))));
     }
       where
         old : List Rec
@@ -365,7 +361,7 @@ module _ (E : List Entry) where
 
         bodies : (M U : Pile) → Passed (f .c₁ .kind) back M U → (m : ℕ) → getD old m noRec .call ≡ 27 → pileIn E old M m ≡ given (num ∷ []) → (getD new m noRec .call ≡ 27) × (pileIn E new M m ≡ given (num ∷ []))
         bodies M U p zero c h = absurd (omega (arith, f .c₀, c))
-        bodies M U p (suc zero) c h = not-27 r₁ (f .c₁ .old) c
+        bodies M U p (suc zero) c h = not-end r₁ (f .c₁ .old) (omega (arith, c))
         bodies M U p (suc (suc zero)) c h = absurd (omega (arith, f .c₂, c))
         bodies M U p (suc (suc (suc zero))) c h = absurd (omega (arith, f .c₃, c))
         bodies M U p (suc (suc (suc (suc zero)))) c h = absurd (omega (arith, f .c₄, c))
@@ -474,6 +470,7 @@ module _ (E : List Entry) where
       pub trace : Trace E (Full X Y) rs [] []
       pub empties : (T : ℕ) → X T → Empty E 0 rs T
       pub bodies : (T : ℕ) → Y T → Body E 0 rs T
+      pub ahead : Ahead 0 rs
 
     swap-sound : (A B : List Rec) → Swap X Y A B → Sound A → Sound B
     swap-sound A B s a = record {
@@ -483,6 +480,7 @@ module _ (E : List Entry) where
           let e = a .bodies T y in
           let u = s .bodies [] [] (a .trace) (e .at) (e .closes) (e .pile) in
           record { at = e .at; place = e .place; within = omega (arith, e .within, s .long); closes = u .0; pile = u .1 };
+      ahead = s .ahead 0 (a .ahead);
     }
 
     delay-one : (F rs : List Rec) → Sound (F ++ rs) → Sound (delayFrom (F ++ rs) (length F))

@@ -2,11 +2,12 @@
 -- missing and no error was noted.
 use mathlib.Core.Path.{_≡_, refl, sym, ap, _∙_}
 use mathlib.Core.List.{List, [], _∷_, _++_, append-assoc, append-nil}
-use Prim.Native.Nat.{ℕ, zero, suc, _+_, _*_, _≤_}
+use Prim.Native.Nat.{ℕ, suc, _+_, _*_, _≤_}
 use lib.ListN.{length, length-append}
 use native.Mathlib.Omega.{arith}
 use Rattle.recorder.specs.declared.word.Range.{Range}
 use Rattle.recorder.specs.Ideal.{Rec, Note, noteOf, Entry, nameKind, howMany, Ideal, ideal, change}
+use Rattle.recorder.proofs.Words.{change-length}
 use Rattle.rules.specs.Demand.{NoError}
 use Rattle.rules.proofs.PileLaws.{all-left, all-right}
 use Rattle.rules.proofs.NamePiles.{Numbered, many-append, numbered-append}
@@ -42,12 +43,6 @@ pub change-append : (f : Rec → Rec) (xs ys : List Rec) (n : ℕ) → change f 
 unfolding change
 change-append f [] ys n = let e : 0 + n ≡ n = omega arith in rw e
 change-append f (x ∷ xs) ys n = let e : suc (length xs) + n ≡ suc (length xs + n) = omega arith in rw e (ap (λ (z : List Rec). x ∷ z) (change-append f xs ys n))
-
-pub change-length : (f : Rec → Rec) (rs : List Rec) (k : ℕ) → length (change f rs k) ≡ length rs
-unfolding change
-change-length f [] k = refl
-change-length f (r ∷ rs) zero = refl
-change-length f (r ∷ rs) (suc k) = ap suc (change-length f rs k)
 
 module _ (E : List Entry) where
   pub seq : {d₁ d₂ : ℕ} {i f g : Ideal} {W₁ W₂ W : Type 0} {A B C : List Rec → Type 0} → Code E d₁ i f W₁ A → Code E d₂ f g W₂ B → (W → W₁) → (W → W₂)

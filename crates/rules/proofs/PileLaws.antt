@@ -2,12 +2,13 @@
 use mathlib.Core.Path.{_≡_, refl}
 use mathlib.Core.List.{List, [], _∷_, _++_}
 use mathlib.Core.Bool.{Bool, true, false}
-use Prim.Native.Nat.{ℕ, zero, suc}
+use Prim.Native.Nat.{ℕ, zero, suc, _+_, _<_}
 use lib.Dec.{eqb, leb}
+use lib.ListN.{length, getD}
 use borrow.Author.Tests.{eqb-true}
 use native.Mathlib.Omega.{arith}
 use Rattle.recorder.specs.Word.{pick, both, either}
-use Rattle.recorder.specs.Ideal.{Rec, Entry}
+use Rattle.recorder.specs.Ideal.{Rec, noRec, Entry}
 use Rattle.sheet.specs.Tree.{Opt, absent, given}
 use Rattle.rules.specs.Missing.{All}
 use Rattle.rules.specs.Piles.{Pile, step}
@@ -133,6 +134,25 @@ Plain es xs P Q = Flow es Never Never xs P Q
 
 pub plain-one : (es : List Entry) (r : Rec) (P Q : Pile) → plainCall (r .call) ≡ true → step es r P ≡ given Q → Plain es (r ∷ []) P Q
 plain-one es r P Q e s = go s (plain-side Never Never r Q [] e) done
+
+-- in a block at B the end of a function is behind its 26, with at least one record between
+abbrev pub Ahead : ℕ → List Rec → Type 0
+Ahead B [] = Unit {0}
+Ahead B (r ∷ rs) = (r .call ≡ 26 → suc B < r .c) × Ahead (suc B) rs
+
+pub ahead-append : (B C : ℕ) (xs ys : List Rec) → C ≡ B + length xs → Ahead B xs → Ahead C ys → Ahead B (xs ++ ys)
+ahead-append B C [] ys h a b = let e : C ≡ B = omega arith in rw e at b
+ahead-append B C (x ∷ xs) ys h a b = (a .0, ahead-append (suc B) C xs ys (omega arith) (a .1) b)
+
+pub ahead-at : (B : ℕ) (xs : List Rec) (k : ℕ) → k < length xs → Ahead B xs → getD xs k noRec .call ≡ 26 → suc (B + k) < getD xs k noRec .c
+ahead-at B [] k h a e = absurd (omega arith)
+ahead-at B (x ∷ xs) zero h a e = omega (arith, a .0 e)
+ahead-at B (x ∷ xs) (suc k) h a e = let l = ahead-at (suc B) xs k (omega arith) (a .1) e in omega (arith, l)
+
+-- where there is no function
+pub flow-ahead : {es : List Entry} {X : ℕ → Type 0} {xs : List Rec} {P Q : Pile} (B : ℕ) → Flow es X Never xs P Q → Ahead B xs
+flow-ahead B done = tt
+flow-ahead B (go s w a) = (λ e. absurd (w .body e), flow-ahead (suc B) a)
 
 pub plain-flow : (es : List Entry) (X Y : ℕ → Type 0) (xs : List Rec) (P Q : Pile) → Plain es xs P Q → Flow es X Y xs P Q
 plain-flow es X Y xs P Q a = flow-map (λ v. absurd) (λ v. absurd) a

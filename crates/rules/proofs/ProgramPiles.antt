@@ -12,6 +12,7 @@ use Rattle.recorder.specs.Recorder.{Recorder}
 use Rattle.recorder.specs.Ideal.{Rec, noRec, Entry, howMany, Ideal, ideal, lookOf}
 use Rattle.recorder.specs.Marks.{Mark, mark, addrOf, dataOf}
 use Rattle.recorder.specs.Closing.{rulesR, cleanUp, closeWhiles, openNotes, delays, endRec, isWend}
+use Rattle.recorder.proofs.Clean.{close-length, delays-length}
 use Rattle.sheet.specs.declared.form.Checked.{Checked}
 use Rattle.sheet.specs.declared.form.Checked.the-variants.{Accepted, TooLong, Surrogate, WorkTooShort, Offends}
 use Rattle.sheet.specs.declared.form.Offence.the-variants.{BadWord, TooDeep, BadLength, BadRange, Fseek}
@@ -29,9 +30,9 @@ use Rattle.rules.proofs.Grown.{Prefix, Code, seq, stay, fails, with-ok,
 use Rattle.rules.proofs.ExprPiles.{Few}
 use Rattle.rules.proofs.Blocks.{Empty, Body, Good, good-nil, first-empty}
 use Rattle.rules.proofs.BlockPiles.{FormedStmts, then-of, stmts-code}
-use Rattle.rules.proofs.Traces.{Fixed, Trace, Zip, Alike, flow-trace, trace-quiet, zip-trace, zip-pile, zip-call}
+use Rattle.rules.proofs.Traces.{Fixed, Trace, Zip, Alike, flow-trace, trace-quiet, zip-trace, zip-pile, zip-ahead, zip-call}
 use Rattle.rules.proofs.ClosingPiles.{each, jumpTo, restoreTo, Finds, Pass, Aimed, Full, pass-labels, pass-restores, label-zip, restore-zip, while-zip}
-use Rattle.rules.proofs.DelayPiles.{Sound, delays-length, delays-sound}
+use Rattle.rules.proofs.DelayPiles.{Sound, delays-sound}
 use Rattle.rules.proofs.Assign.{finished-piles}
 
 -- what the form of the sheet says of a program
@@ -90,9 +91,9 @@ module _ (t : List ℕ) where
         let B = length (c .state .records) in
         with-ok E {W = Unit {0} × (WholeStmts (l .stmts) × FormedStmts (l .stmts))} {A = λ xs. Good E B ms xs} 0 (omega arith)
         (then-of E few t (c .base) (c .state) b (compileStmts R t (c .base) (l .stmts) b) [] ms (begun-code c l) (stmts-code E few t (c .base) (l .stmts) b))
-        (λ w. (tt, w)) (λ w xs u. record { flow = u .flow; edges = (first-empty E B xs, u .edges) })
+        (λ w. (tt, w)) (λ w xs u. record { flow = u .flow; edges = (first-empty E B xs, u .edges); ahead = u .ahead })
 
-    lines-code : (ls : List ProgramLine) (c : Lines Ideal) → Code E 0 (c .state) (compileLines R t ls c .state) (Whole ls × Formed ls) (λ xs. Good E (length (c .state .records)) (allEdges ls c) xs)
+    pub lines-code : (ls : List ProgramLine) (c : Lines Ideal) → Code E 0 (c .state) (compileLines R t ls c .state) (Whole ls × Formed ls) (λ xs. Good E (length (c .state .records)) (allEdges ls c) xs)
     unfolding compileLines
     lines-code [] c = stay E (c .state) (Unit {0} × Unit {0}) _ (λ w. good-nil E (length (c .state .records)))
     lines-code (l ∷ ls) c =
@@ -105,11 +106,6 @@ module _ (t : List ℕ) where
 each-length : (f : Rec → Rec) (rs : List Rec) → length (each f rs) ≡ length rs
 each-length f [] = refl
 each-length f (r ∷ rs) = ap suc (each-length f rs)
-
-close-length : (rs : List Rec) (k : ℕ) → length (closeWhiles rs k) ≡ length rs
-unfolding closeWhiles
-close-length [] k = refl
-close-length (r ∷ rs) k = ap suc (close-length rs (suc k))
 
 module _ (t : List ℕ) (c : Lines Ideal) where
   abbrev C : List Rec
@@ -128,7 +124,7 @@ module _ (t : List ℕ) (c : Lines Ideal) where
   second-pass = pass-restores t (c .marks) [] (u .records) 0 u refl refl
 
   -- the finished list, by its passes
-  v-records : v .records ≡ each (restoreTo (c .marks)) (each (jumpTo (c .marks)) C)
+  pub v-records : v .records ≡ each (restoreTo (c .marks)) (each (jumpTo (c .marks)) C)
   v-records = second-pass .records ∙ ap (λ (z : List Rec). each (restoreTo (c .marks)) z) (first-pass .records)
 
   v-length : length (v .records) ≡ length C
@@ -161,6 +157,7 @@ module _ (t : List ℕ) (c : Lines Ideal) where
         trace = zip-trace z₃ tr₂;
         empties = λ T e. record { at = e .at; place = e .place; within = omega (arith, e .within, long); pile = pile-same [] (e .at) ∙ e .pile };
         bodies = λ T e. record { at = e .at; place = e .place; within = omega (arith, e .within, long); closes = call-same (e .at) ∙ e .closes; pile = pile-same [] (e .at) ∙ e .pile };
+        ahead = zip-ahead 0 z₃ (zip-ahead 0 z₂ (zip-ahead 0 z₁ (g .ahead)));
       })
     where
       X : ℕ → Type 0
@@ -231,7 +228,7 @@ unfolding outcome
 accepted-is s t L e = accepted-by (checked s t (L .work)) s t L e
 
 -- no name at all: what is made of names does not depend on the book that they are looked up in
-few-none : Few []
+pub few-none : Few []
 unfolding howMany
 few-none = record { numbered = tt; most = omega arith }
 

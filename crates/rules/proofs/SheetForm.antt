@@ -1,5 +1,5 @@
 -- The trees that a sheet in form holds: places to store are places, functions have arguments, statements have their numbers.
-use mathlib.Core.Path.{_≡_, refl, sym, ap, _∙_, subst}
+use mathlib.Core.Path.{_≡_, refl, sym, subst}
 use mathlib.Core.List.{List, [], _∷_}
 use mathlib.Core.Bool.{Bool, true, false}
 use Prim.Native.Nat.{ℕ, zero, suc, _+_}
@@ -20,19 +20,21 @@ use Rattle.sheet.specs.declared.form.Walk.the-variants.{Behind, Stops}
 use Rattle.sheet.specs.declared.form.Line.{Line}
 use Rattle.sheet.specs.declared.form.Offence.the-variants.{BadLength}
 use Rattle.sheet.specs.declared.form.Checked.the-variants.{Accepted, TooLong, Surrogate, WorkTooShort}
-use Rattle.sheet.specs.Table.{one, list, nonEmpty, nonEmpty₂, optionalList, expr, place, inputPlace, stmt, mayStand, stmtTable, exprFields, stmtFields}
+use Rattle.sheet.specs.Table.{one, optional, list, nonEmpty, nonEmpty₂, optionalList, expr, flag, place, inputPlace, stmt, mayStand, stmtTable, exprFields, stmtFields}
 use Rattle.sheet.specs.Form
 use Rattle.sheet.specs.Check.{checked, isTooLong, hasSurrogate, formChecked}
 use Rattle.sheet.specs.Skip.{skipItem, skipPair, skipList, skipTimes, skipField, skipNode, skipSource, skipElement}
-use Rattle.sheet.specs.Tree.{Expr, FieldSpec, Stmt, ifThen, ifElse, then, shapeTable, shapeOf, exprsAt, itemsAt, exprListAt, exprNode, exprAt, stmtsAt, elementOf, ifAt, stmtNode, stmtAt, lineAt, behindLabel, behindLine, lineStmts, programAt}
+use Rattle.sheet.specs.Tree.{Expr, FieldSpec, WriteElement, Stmt, ifThen, ifElse, then, shapeTable, shapeOf, exprsAt, itemsAt, exprListAt, exprNode, exprAt, stmtsAt, elementOf, ifAt, stmtNode, stmtAt, lineAt, behindLabel, behindLine, lineStmts, programAt}
+use Rattle.sheet.proofs.Lines.{then-first}
+use Rattle.sheet.proofs.Accepted.{Lands, lands-choose, lands-then, word-lands, range-lands, item-lands, list-lands, field-lands, node-lands, accepted}
 use Rattle.rules.specs.declared.types.«Type».the-variants.{String, Real}
 use Rattle.rules.specs.Missing.{All}
 use Rattle.rules.specs.Tables.{operand}
 use Rattle.rules.specs.Piles.{isSet}
 use Rattle.rules.proofs.BoolLaws.{no-one, both-left, both-right}
 use Rattle.rules.proofs.OpPiles.{IsPlace, IsInput, AllExprs, Filled, FilledCall, FormedElement, PlainOp, DrawOp, SetOp}
-use Rattle.rules.proofs.BlockPiles.{FormedStmt, FormedStmts}
-use Rattle.rules.proofs.SheetWalk.{parts, word-end, nonempty, range-end, item-end, list-end, field-end, inside, node-end, passes}
+use Rattle.rules.proofs.BlockPiles.{Some, FormedStmt, FormedStmts}
+use Rattle.rules.proofs.SheetWalk.{goes-on, nonempty, inside, passes}
 use Rattle.rules.proofs.ProgramPiles.{Formed}
 
 -- the numbers of statements, by their shape
@@ -151,7 +153,7 @@ fieldsBy Restore fs = fs
 fieldsBy Swap fs = one place ∷ one place ∷ []
 fieldsBy System fs = fs
 fieldsBy While fs = fs
-fieldsBy Write fs = fs
+fieldsBy Write fs = optional expr ∷ nonEmpty₂ expr flag ∷ []
 
 abbrev fitted : List Shape → List (List Field) → List (List Field)
 fitted [] fs = fs
@@ -228,16 +230,17 @@ module _ (s t : List ℕ) (line : Line) where
     pub first : Through (Form.fieldForm s t line child f at)
     pub rest : Form.fieldsForm s t line child fs (skipField s skip f at) ≡ Behind p
 
-  module _ (child : Sort → ℕ → Walk) (skip : Sort → ℕ → ℕ) (agree : (c : Sort) (at p : ℕ) → child c at ≡ Behind p → p ≡ skip c at) where
+  module _ (child : Sort → ℕ → Walk) (skip : Sort → ℕ → ℕ) (lands : (c : Sort) (at : ℕ) → Lands (child c at) (skip c at)) where
     head-field : (f : Field) (fs : List Field) (at p : ℕ) → Form.fieldsForm s t line child (f ∷ fs) at ≡ Behind p → HeadField child skip f fs at p
     unfolding Form.fieldsForm
     head-field f fs at p e =
-        let u = parts (Form.fieldForm s t line child f at) (λ q. Form.fieldsForm s t line child fs q) p e in
-        record { first = record { behind = u .at; goes = u .first }; rest = subst (λ (q : ℕ). Form.fieldsForm s t line child fs q ≡ Behind p) (field-end s t line child skip agree f at (u .at) (u .first)) (u .second) }
+        let q = skipField s skip f at in
+        let u = goes-on (Form.fieldForm s t line child f at) (λ q. Form.fieldsForm s t line child fs q) q p (field-lands s t line child skip lands f at) e in
+        record { first = record { behind = q; goes = u .0 }; rest = u .1 }
 
     one-item : (i : Item) (at p : ℕ) → Form.fieldForm s t line child (one i) at ≡ Behind p → Through (Form.itemForm s t line child i at)
     unfolding Form.fieldForm Form.timesForm Form.pairForm
-    one-item i at p e = let u = parts (Form.itemForm s t line child i at) (λ q. Form.itemForm s t line child Nothing q) p e in record { behind = u .at; goes = u .first }
+    one-item i at p e = let u = then-first _ (Form.itemForm s t line child i at) (λ q. Form.itemForm s t line child Nothing q) p refl e in record { behind = u .0; goes = u .1 }
 
     one-node : (c : Sort) (at p : ℕ) → Form.fieldForm s t line child (one (Node c)) at ≡ Behind p → Through (child c at)
     unfolding Form.itemForm
@@ -246,9 +249,7 @@ module _ (s t : List ℕ) (line : Line) where
     -- the items of a list
     list-items : (f : ℕ → Walk) (at p : ℕ) → Form.listForm s t line f at ≡ Behind p → Form.repeatForm s t line f (payloadAt s at) (next s at) ≡ Behind p
     unfolding Form.listForm
-    list-items f at p e =
-        let u = parts (Form.countForm s at) (λ q. Form.repeatForm s t line f (payloadAt s at) q) p e in
-        subst (λ (q : ℕ). Form.repeatForm s t line f (payloadAt s at) q ≡ Behind p) (word-end s t 4 16777216 at (u .at) (u .first)) (u .second)
+    list-items f at p e = goes-on (Form.countForm s at) (λ q. Form.repeatForm s t line f (payloadAt s at) q) (next s at) p (word-lands s 4 16777216 at) e .1
 
     listed : (a : Item) (at p : ℕ) → Form.fieldForm s t line child (list a) at ≡ Behind p → Form.repeatForm s t line (Form.pairForm s t line child a Nothing) (payloadAt s at) (next s at) ≡ Behind p
     unfolding Form.fieldForm Form.timesForm
@@ -258,16 +259,16 @@ module _ (s t : List ℕ) (line : Line) where
         → (eqb (payloadAt s at) 0 ≡ false) × (Form.repeatForm s t line (Form.pairForm s t line child a b) (payloadAt s at) (next s at) ≡ Behind p)
     unfolding Form.fieldForm Form.timesForm
     listed-some a b at p e =
-        let u = parts (Form.nonEmptyForm s at) (λ q. Form.listForm s t line (Form.pairForm s t line child a b) at) p e in
-        (nonempty s t at (u .at) (u .first), list-items (Form.pairForm s t line child a b) at p (u .second))
+        let u = then-first _ (Form.nonEmptyForm s at) (λ q. Form.listForm s t line (Form.pairForm s t line child a b) at) p refl e in
+        (nonempty s at (u .0) (u .1), list-items (Form.pairForm s t line child a b) at p (u .2))
 
     -- one item: where it ends, and what is known of it
     single : (a : Item) (at p : ℕ) → Form.pairForm s t line child a Nothing at ≡ Behind p → Form.itemForm s t line child a at ≡ Behind p
     unfolding Form.pairForm Form.itemForm
     single a at p e =
-        let u = parts (Form.itemForm s t line child a at) (λ q. Form.itemForm s t line child Nothing q) p e in
-        let f : u .at ≡ p = cc (u .second) in
-        rw f at (u .first)
+        let u = then-first _ (Form.itemForm s t line child a at) (λ q. Form.itemForm s t line child Nothing q) p refl e in
+        let f : u .0 ≡ p = cc (u .2) in
+        rw f at (u .1)
 
     single-node : (c : Sort) (at p : ℕ) → Form.pairForm s t line child (Node c) Nothing at ≡ Behind p → child c at ≡ Behind p
     unfolding Form.itemForm
@@ -278,25 +279,25 @@ module _ (s t : List ℕ) (line : Line) where
     unfolding Form.repeatForm exprsAt
     repeat-exprs X h k zero at p e = tt
     repeat-exprs X h k (suc n) at p e =
-        let u = parts (f at) (λ q. Form.repeatForm s t line f n q) p e in
-        let v = k at (u .at) (u .first) in
-        (v .1, repeat-exprs X h k n (g at) p (subst (λ (q : ℕ). Form.repeatForm s t line f n q ≡ Behind p) (v .0) (u .second)))
+        let u = then-first _ (f at) (λ q. Form.repeatForm s t line f n q) p refl e in
+        let v = k at (u .0) (u .1) in
+        (v .1, repeat-exprs X h k n (g at) p (subst (λ (q : ℕ). Form.repeatForm s t line f n q ≡ Behind p) (v .0) (u .2)))
 
     repeat-items : {A : Type 0} (X : A → Type 0) (h : ℕ → A) → ((at p : ℕ) → f at ≡ Behind p → (p ≡ g at) × X (h at)) → (n at p : ℕ) → Form.repeatForm s t line f n at ≡ Behind p → All X (itemsAt s h g n at)
     unfolding Form.repeatForm itemsAt
     repeat-items X h k zero at p e = tt
     repeat-items X h k (suc n) at p e =
-        let u = parts (f at) (λ q. Form.repeatForm s t line f n q) p e in
-        let v = k at (u .at) (u .first) in
-        (v .1, repeat-items X h k n (g at) p (subst (λ (q : ℕ). Form.repeatForm s t line f n q ≡ Behind p) (v .0) (u .second)))
+        let u = then-first _ (f at) (λ q. Form.repeatForm s t line f n q) p refl e in
+        let v = k at (u .0) (u .1) in
+        (v .1, repeat-items X h k n (g at) p (subst (λ (q : ℕ). Form.repeatForm s t line f n q ≡ Behind p) (v .0) (u .2)))
 
     repeat-stmts : (h : ℕ → Stmt) → ((at p : ℕ) → f at ≡ Behind p → (p ≡ g at) × FormedStmt (h at)) → (n at p : ℕ) → Form.repeatForm s t line f n at ≡ Behind p → FormedStmts (stmtsAt s h g n at)
     unfolding Form.repeatForm stmtsAt
     repeat-stmts h k zero at p e = tt
     repeat-stmts h k (suc n) at p e =
-        let u = parts (f at) (λ q. Form.repeatForm s t line f n q) p e in
-        let v = k at (u .at) (u .first) in
-        (v .1, repeat-stmts h k n (g at) p (subst (λ (q : ℕ). Form.repeatForm s t line f n q ≡ Behind p) (v .0) (u .second)))
+        let u = then-first _ (f at) (λ q. Form.repeatForm s t line f n q) p refl e in
+        let v = k at (u .0) (u .1) in
+        (v .1, repeat-stmts h k n (g at) p (subst (λ (q : ℕ). Form.repeatForm s t line f n q ≡ Behind p) (v .0) (u .2)))
 
   abbrev node : ℕ → Sort → ℕ → Walk
   node left c at = Form.nodeForm s t line left c at
@@ -322,11 +323,11 @@ module _ (s t : List ℕ) (line : Line) where
       filled : payloadAt s at ≡ 3 → Form.fieldsForm s t line (node left) (exprFields (payloadAt s at)) P ≡ Behind p → Filled (exprListAt s (exprAt s left) (skipNode s left exprSort) (next s (next s P)))
       filled k h = unfold exprFields skipField skipTimes skipPair skipItem in
           let h₀ = subst (λ (n : ℕ). Form.fieldsForm s t line (node left) (exprFields n) P ≡ Behind p) k h in
-          let a = head-field (node left) (skipNode s left) (node-end s t line left) _ _ P p h₀ in
-          let b = head-field (node left) (skipNode s left) (node-end s t line left) _ _ (next s P) p (a .rest) in
-          let c = head-field (node left) (skipNode s left) (node-end s t line left) _ _ (next s (next s P)) p (b .rest) in
+          let a = head-field (node left) (skipNode s left) (node-lands s t line left) _ _ P p h₀ in
+          let b = head-field (node left) (skipNode s left) (node-lands s t line left) _ _ (next s P) p (a .rest) in
+          let c = head-field (node left) (skipNode s left) (node-lands s t line left) _ _ (next s (next s P)) p (b .rest) in
           filled-list s (exprAt s left) (skipNode s left exprSort) (payloadAt s (next s (next s P))) (next s (next s (next s P)))
-          (listed-some (node left) (skipNode s left) (node-end s t line left) expr Nothing (next s (next s P)) (c .first .behind) (c .first .goes) .0)
+          (listed-some (node left) (skipNode s left) (node-lands s t line left) expr Nothing (next s (next s P)) (c .first .behind) (c .first .goes) .0)
 
   -- a statement's parts, where `left` depths are left and those below are formed
   module _ (left : ℕ) (below : (at p : ℕ) → node left stmtSort at ≡ Behind p → FormedStmt (stmtAt s left at)) where
@@ -340,12 +341,12 @@ module _ (s t : List ℕ) (line : Line) where
     Fs fs at p = Form.fieldsForm s t line child fs at ≡ Behind p
 
     head : (f : Field) (fs : List Field) (at p : ℕ) → Fs (f ∷ fs) at p → HeadField child skip f fs at p
-    head f fs at p e = head-field child skip (node-end s t line left) f fs at p e
+    head f fs at p e = head-field child skip (node-lands s t line left) f fs at p e
 
     first-place : (fs : List Field) (at p : ℕ) → Fs (one place ∷ fs) at p → IsPlace (exprAt s left at)
     first-place fs at p e =
         let a = head (one place) fs at p e in
-        let b = one-node child skip (node-end s t line left) placeSort at (a .first .behind) (a .first .goes) in
+        let b = one-node child skip (node-lands s t line left) placeSort at (a .first .behind) (a .first .goes) in
         place-tree left at (b .behind) (b .goes)
 
     two-places : (at p : ℕ) → Fs (one place ∷ one place ∷ []) at p → IsPlace (exprAt s left at) × IsPlace (exprAt s left (skip placeSort at))
@@ -357,9 +358,9 @@ module _ (s t : List ℕ) (line : Line) where
     read-places : (at p : ℕ) → Fs (nonEmpty place ∷ []) at p → AllExprs IsPlace (exprsAt s (exprAt s left) (skip placeSort) (payloadAt s at) (next s at))
     read-places at p e =
         let a = head (nonEmpty place) [] at p e in
-        let b = listed-some child skip (node-end s t line left) place Nothing at (a .first .behind) (a .first .goes) in
+        let b = listed-some child skip (node-lands s t line left) place Nothing at (a .first .behind) (a .first .goes) in
         repeat-exprs (Form.pairForm s t line child place Nothing) (skip placeSort) IsPlace (exprAt s left)
-        (λ q r f. let g = single-node child skip (node-end s t line left) placeSort q r f in (node-end s t line left placeSort q r g, place-tree left q r g))
+        (λ q r f. let g = single-node child skip (node-lands s t line left) placeSort q r f in (accepted s t line left placeSort q r g, place-tree left q r g))
         (payloadAt s at) (next s at) (a .first .behind) (b .1)
 
     input-places : (at p : ℕ) → Fs (one source ∷ nonEmpty inputPlace ∷ []) at p
@@ -369,9 +370,9 @@ module _ (s t : List ℕ) (line : Line) where
         let a = head _ (nonEmpty inputPlace ∷ []) at p e in
         let q = skipSource s skip (payloadAt s at) (next s at) in
         let b = head (nonEmpty inputPlace) [] q p (a .rest) in
-        let c = listed-some child skip (node-end s t line left) inputPlace Nothing q (b .first .behind) (b .first .goes) in
+        let c = listed-some child skip (node-lands s t line left) inputPlace Nothing q (b .first .behind) (b .first .goes) in
         repeat-exprs (Form.pairForm s t line child inputPlace Nothing) (skip inputSort) IsInput (exprAt s left)
-        (λ m r f. let g = single-node child skip (node-end s t line left) inputSort m r f in (node-end s t line left inputSort m r g, input-tree left m r g))
+        (λ m r f. let g = single-node child skip (node-lands s t line left) inputSort m r f in (accepted s t line left inputSort m r g, input-tree left m r g))
         (payloadAt s q) (next s q) (b .first .behind) (c .1)
 
     field-places : (at p : ℕ) → Fs (one expr ∷ nonEmpty₂ expr place ∷ []) at p
@@ -381,14 +382,27 @@ module _ (s t : List ℕ) (line : Line) where
         let a = head (one expr) (nonEmpty₂ expr place ∷ []) at p e in
         let q = skip exprSort at in
         let b = head (nonEmpty₂ expr place) [] q p (a .rest) in
-        let c = listed-some child skip (node-end s t line left) expr place q (b .first .behind) (b .first .goes) in
+        let c = listed-some child skip (node-lands s t line left) expr place q (b .first .behind) (b .first .goes) in
         repeat-items (Form.pairForm s t line child expr place) (λ q. skip placeSort (skip exprSort q)) (λ (f : FieldSpec). IsPlace (f .var)) _ (λ m r f. one-field m r f) (payloadAt s q) (next s q) (b .first .behind) (c .1)
       where
         one-field : (m r : ℕ) → Form.pairForm s t line child expr place m ≡ Behind r → (r ≡ skip placeSort (skip exprSort m)) × IsPlace (exprAt s left (skip exprSort m))
         one-field m r f = unfold Form.pairForm Form.itemForm in
-            let u = parts (child exprSort m) (λ q. child placeSort q) r f in
-            let g : child placeSort (skip exprSort m) ≡ Behind r = subst (λ (q : ℕ). child placeSort q ≡ Behind r) (node-end s t line left exprSort m (u .at) (u .first)) (u .second) in
-            (node-end s t line left placeSort (skip exprSort m) r g, place-tree left (skip exprSort m) r g)
+            let g = goes-on (child exprSort m) (λ q. child placeSort q) (skip exprSort m) r (node-lands s t line left exprSort m) f .1 in
+            (accepted s t line left placeSort (skip exprSort m) r g, place-tree left (skip exprSort m) r g)
+
+    some-items : {A : Type 0} (h : ℕ → A) (g : ℕ → ℕ) (n at : ℕ) → eqb n 0 ≡ false → Some (itemsAt s h g n at)
+    unfolding itemsAt
+    some-items h g zero at e = no-one (sym e)
+    some-items h g (suc n) at e = tt
+
+    write-values : (at p : ℕ) → Fs (optional expr ∷ nonEmpty₂ expr flag ∷ []) at p
+        → Some {A = WriteElement} (itemsAt s (λ q. record { datum = exprAt s left q; comma = payloadAt s (skip exprSort q) }) (λ q. next s (skip exprSort q)) (payloadAt s (Form.choose (Form.isAbsent s at) (next s) (skip exprSort) at)) (next s (Form.choose (Form.isAbsent s at) (next s) (skip exprSort) at)))
+    unfolding skipField skipTimes skipPair skipItem
+    write-values at p e =
+        let a = head (optional expr) (nonEmpty₂ expr flag ∷ []) at p e in
+        let q = Form.choose (Form.isAbsent s at) (next s) (skip exprSort) at in
+        let b = head (nonEmpty₂ expr flag) [] q p (a .rest) in
+        some-items _ _ (payloadAt s q) (next s q) (listed-some child skip (node-lands s t line left) expr flag q (b .first .behind) (b .first .goes) .0)
 
     element-of : (n q p : ℕ) → Form.elementRest s t line child n q ≡ Behind p → FormedElement (elementOf s left (stmtAt s left) n q)
     element-of zero q p e = call-tree left q p e
@@ -399,23 +413,22 @@ module _ (s t : List ℕ) (line : Line) where
         → All FormedElement (itemsAt s (λ q. elementOf s left (stmtAt s left) (payloadAt s q) (next s q)) (λ q. skipElement s skip (payloadAt s q) (next s q)) (payloadAt s at) (next s at))
     elements at p e =
         let a = head _ [] at p e in
-        let b = listed child skip (node-end s t line left) _ at (a .first .behind) (a .first .goes) in
+        let b = listed child skip (node-lands s t line left) _ at (a .first .behind) (a .first .goes) in
         repeat-items (Form.pairForm s t line child element Nothing) (λ q. skipElement s skip (payloadAt s q) (next s q)) FormedElement _ (λ m r f. one-element m r f)
         (payloadAt s at) (next s at) (a .first .behind) b
       where
         one-element : (m r : ℕ) → Form.pairForm s t line child element Nothing m ≡ Behind r
             → (r ≡ skipElement s skip (payloadAt s m) (next s m)) × FormedElement (elementOf s left (stmtAt s left) (payloadAt s m) (next s m))
         one-element m r f = unfold Form.itemForm skipItem in
-            let g = single child skip (node-end s t line left) element m r f in
-            let u = parts (Form.takeWord s 8 3 m) (λ q. Form.elementRest s t line child (payloadAt s m) q) r g in
-            let h = subst (λ (q : ℕ). Form.elementRest s t line child (payloadAt s m) q ≡ Behind r) (word-end s t 8 3 m (u .at) (u .first)) (u .second) in
-            (item-end s t line child skip (node-end s t line left) element m r g, element-of (payloadAt s m) (next s m) r h)
+            let g = single child skip (node-lands s t line left) element m r f in
+            let h = goes-on (Form.takeWord s 8 3 m) (λ q. Form.elementRest s t line child (payloadAt s m) q) (next s m) r (word-lands s 8 3 m) g .1 in
+            (item-lands s t line child skip (node-lands s t line left) element m .ends r g, element-of (payloadAt s m) (next s m) r h)
 
     -- statements inside an IF
     stmts-of : (n at p : ℕ) → Form.repeatForm s t line (Form.pairForm s t line child stmt Nothing) n at ≡ Behind p → FormedStmts (stmtsAt s (stmtAt s left) (skip stmtSort) n at)
     stmts-of n at p e =
         repeat-stmts (Form.pairForm s t line child stmt Nothing) (skip stmtSort) (stmtAt s left)
-        (λ q r f. let g = single-node child skip (node-end s t line left) stmtSort q r f in (node-end s t line left stmtSort q r g, below q r g)) n at p e
+        (λ q r f. let g = single-node child skip (node-lands s t line left) stmtSort q r f in (accepted s t line left stmtSort q r g, below q r g)) n at p e
 
     if-of : (r : Range) (at p : ℕ) → Fs (one expr ∷ list stmt ∷ optionalList stmt ∷ []) at p → FormedStmt (ifAt s left (stmtAt s left) r at)
     unfolding skipField skipTimes skipPair skipItem Form.fieldForm Form.timesForm
@@ -423,7 +436,7 @@ module _ (s t : List ℕ) (line : Line) where
         let a = head (one expr) (list stmt ∷ optionalList stmt ∷ []) at p e in
         let q = skip exprSort at in
         let b = head (list stmt) (optionalList stmt ∷ []) q p (a .rest) in
-        let x = stmts-of (payloadAt s q) (next s q) (b .first .behind) (listed child skip (node-end s t line left) stmt q (b .first .behind) (b .first .goes)) in
+        let x = stmts-of (payloadAt s q) (next s q) (b .first .behind) (listed child skip (node-lands s t line left) stmt q (b .first .behind) (b .first .goes)) in
         let c = head (optionalList stmt) [] (skipList s (skip stmtSort) q) p (b .rest) in
         go (Form.isAbsent s (skipList s (skip stmtSort) q)) x (c .first .behind) (c .first .goes)
       where
@@ -435,7 +448,7 @@ module _ (s t : List ℕ) (line : Line) where
             → FormedStmt (Form.choose b (λ q. ifThen r (exprAt s left at) (stmtsAt s (stmtAt s left) (skip stmtSort) (payloadAt s (skip exprSort at)) (next s (skip exprSort at))))
             (λ q. ifElse r (exprAt s left at) (stmtsAt s (stmtAt s left) (skip stmtSort) (payloadAt s (skip exprSort at)) (next s (skip exprSort at))) (stmtsAt s (stmtAt s left) (skip stmtSort) (payloadAt s q) (next s q))) m)
         go true x u h = x
-        go false x u h = (x, stmts-of (payloadAt s m) (next s m) u (list-items child skip (node-end s t line left) (Form.pairForm s t line child stmt Nothing) m u h))
+        go false x u h = (x, stmts-of (payloadAt s m) (next s m) u (list-items child skip (node-lands s t line left) (Form.pairForm s t line child stmt Nothing) m u h))
 
     shape-of : (x : Shape) (k : ℕ) (r : Range) (at p : ℕ) (fs : List Field) → opTest x k ≡ true → fieldsBy x fs ≡ fs → Fs fs at p → FormedStmt (stmtNode s left (stmtAt s left) x k r at)
     unfolding stmtNode
@@ -469,7 +482,7 @@ module _ (s t : List ℕ) (line : Line) where
     shape-of Swap k r at p fs o e f = two-places at p (rw (← e) at f)
     shape-of System k r at p fs o e f = tt
     shape-of While k r at p fs o e f = tt
-    shape-of Write k r at p fs o e f = tt
+    shape-of Write k r at p fs o e f = write-values at p (rw (← e) at f)
 
   stmt-tree : (left at p : ℕ) → node left stmtSort at ≡ Behind p → FormedStmt (stmtAt s left at)
   unfolding stmtAt
@@ -480,42 +493,39 @@ module _ (s t : List ℕ) (line : Line) where
 
 -- a line, and where it ends
 module _ (s t : List ℕ) where
-  label-end : (b : Bool) (line : Line) (at p : ℕ) → Form.choose b (Form.absentForm s) (λ p. Form.then (Form.rangeForm s line p) (λ q. Form.takeWord s 3 65536 q)) at ≡ Behind p → p ≡ Form.choose b (next s) (λ p. next s (next s p)) at
-  label-end true line at p e = word-end s t 2 1 at p e
-  label-end false line at p e =
-      let u = parts (Form.rangeForm s line at) (λ q. Form.takeWord s 3 65536 q) p e in
-      word-end s t 3 65536 (u .at) p (u .second) ∙ ap (next s) (range-end s t line at (u .at) (u .first))
+  label-lands : (line : Line) (at : ℕ) → Lands (Form.labelForm s line at) (behindLabel s at)
+  unfolding Form.labelForm
+  label-lands line at =
+      lands-choose (Form.isAbsent s at) (Form.absentForm s) (λ p. Form.then (Form.rangeForm s line p) (λ q. Form.takeWord s 3 65536 q)) (next s) (λ p. next s (next s p)) at (word-lands s 2 1 at)
+      (lands-then _ _ (next s at) _ (range-lands s line at) (word-lands s 3 65536 (next s at)))
 
   line-tree : (base at p : ℕ) → Form.lineForm s t base at ≡ Behind p → (p ≡ behindLine s at) × FormedStmts (lineStmts s (behindLabel s (next s at)))
-  unfolding Form.lineForm Form.lineHead Form.labelForm
+  unfolding Form.lineForm Form.lineHead
   line-tree base at p e =
       let line = Form.lineOf s t base at in
       let f = Form.nodeForm s t line 64 stmtSort in
-      let u = parts (Form.lineHead s t base at) (λ p. Form.then (Form.labelForm s line p) (λ q. Form.listForm s t line f q)) p e in
-      let h = parts (Form.takeWord s 16 4096 at) (λ p. pick (leb (base + payloadAt s at) (length t)) (Behind p) (Stops (BadLength at))) (u .at) (u .first) in
-      let e₁ : u .at ≡ next s at = passes (leb (base + payloadAt s at) (length t)) (h .at) (u .at) (BadLength at) (h .second) .1 ∙ word-end s t 16 4096 at (h .at) (h .first) in
-      let v = parts (Form.labelForm s line (u .at)) (λ q. Form.listForm s t line f q) p (u .second) in
-      let e₂ : v .at ≡ behindLabel s (next s at) = label-end (Form.isAbsent s (u .at)) line (u .at) (v .at) (v .first) ∙ ap (behindLabel s) e₁ in
-      let w : Form.listForm s t line f (behindLabel s (next s at)) ≡ Behind p = subst (λ (q : ℕ). Form.listForm s t line f q ≡ Behind p) e₂ (v .second) in
+      let u = then-first _ (Form.lineHead s t base at) (λ p. Form.then (Form.labelForm s line p) (λ q. Form.listForm s t line f q)) p refl e in
+      let h = goes-on (Form.takeWord s 16 4096 at) (λ p. pick (leb (base + payloadAt s at) (length t)) (Behind p) (Stops (BadLength at))) (next s at) (u .0) (word-lands s 16 4096 at) (u .1) in
+      let z : u .0 ≡ next s at = passes (leb (base + payloadAt s at) (length t)) (next s at) (u .0) (BadLength at) (h .1) .1 in
       let m = behindLabel s (next s at) in
-      let agree = node-end s t line 64 in (
-        list-end s t line (Form.nodeForm s t line 64) (skipNode s 64) agree f (skipNode s 64 stmtSort) (agree stmtSort) m p w,
-        repeat-stmts s t line f (skipNode s 64 stmtSort) (stmtAt s 64) (λ q r g. (agree stmtSort q r g, stmt-tree s t line 64 q r g)) (payloadAt s m) (next s m) p (list-items s t line (Form.nodeForm s t line 64) (skipNode s 64) agree f m p w),
+      let w = goes-on (Form.labelForm s line (next s at)) (λ q. Form.listForm s t line f q) m p (label-lands line (next s at)) (rw z at (u .2)) .1 in
+      let lands = node-lands s t line 64 in (
+        list-lands s t line f (skipNode s 64 stmtSort) (lands stmtSort) m .ends p w,
+        repeat-stmts s t line f (skipNode s 64 stmtSort) (stmtAt s 64) (λ q r g. (lands stmtSort q .ends r g, stmt-tree s t line 64 q r g)) (payloadAt s m) (next s m) p (list-items s t line (Form.nodeForm s t line 64) (skipNode s 64) lands f m p w),
       )
 
   lines-tree : (n base at p : ℕ) → Form.linesForm s t n base at ≡ Behind p → Formed (itemsAt s (lineAt s) (behindLine s) n at)
   unfolding Form.linesForm itemsAt
   lines-tree zero base at p e = tt
   lines-tree (suc n) base at p e =
-      let u = parts (Form.lineForm s t base at) (λ q. Form.linesForm s t n (base + payloadAt s at) q) p e in
-      let v = line-tree base at (u .at) (u .first) in
-      (v .1, lines-tree n (base + payloadAt s at) (behindLine s at) p (subst (λ (q : ℕ). Form.linesForm s t n (base + payloadAt s at) q ≡ Behind p) (v .0) (u .second)))
+      let u = then-first _ (Form.lineForm s t base at) (λ q. Form.linesForm s t n (base + payloadAt s at) q) p refl e in
+      let v = line-tree base at (u .0) (u .1) in
+      (v .1, lines-tree n (base + payloadAt s at) (behindLine s at) p (subst (λ (q : ℕ). Form.linesForm s t n (base + payloadAt s at) q ≡ Behind p) (v .0) (u .2)))
 
   sheet-tree : (p : ℕ) → Form.sheetForm s t ≡ Behind p → Formed (programAt s)
   unfolding Form.sheetForm programAt
   sheet-tree p e =
-      let u = parts (Form.takeWord s 15 16777216 0) (λ q. Form.linesForm s t (payloadAt s 0) 0 q) p e in
-      lines-tree (payloadAt s 0) 0 (next s 0) p (subst (λ (q : ℕ). Form.linesForm s t (payloadAt s 0) 0 q ≡ Behind p) (word-end s t 15 16777216 0 (u .at) (u .first)) (u .second))
+      lines-tree (payloadAt s 0) 0 (next s 0) p (goes-on (Form.takeWord s 15 16777216 0) (λ q. Form.linesForm s t (payloadAt s 0) 0 q) (next s 0) p (word-lands s 15 16777216 0) e .1)
 
   -- an accepted sheet is in form
   pub accepted-formed : (work : ℕ) → checked s t work ≡ Accepted → Formed (programAt s)

@@ -15,6 +15,7 @@ use Rattle.recorder.proofs.Simulation.{Simulation, Looks}
 use Rattle.sheet.specs.Tree.{Opt, absent, given, Stmts, Labelled, ProgramLine}
 use Rattle.rules.specs.Stmt.{compileStmts}
 use Rattle.rules.specs.Program.{Lines, marked, isPendingJump, isPendingRestore, labelNote, lineBegun, lineDone, compileLine, compileLines, firstLine, settleBy, settleJump, settleRestore, resolveLabels, resolveDatumIndices, closeUp}
+use Rattle.rules.proofs.BoolLaws.{both-right}
 use Rattle.rules.proofs.SimExpr.{Goes, begin, start, over, noted, pick-goes, place-then}
 use Rattle.rules.proofs.SimStmt.{sim-stmts}
 
@@ -42,10 +43,6 @@ before (suc n) = n
 both-no : (a : Bool) → both a false ≡ false
 both-no true = refl
 both-no false = refl
-
-both-right : (a b : Bool) → both a b ≡ true → b ≡ true
-both-right true b e = e
-both-right false b e = absurd (let z : _≡_ {A = ℕ} 0 1 = cc in omega arith)
 
 -- what resolution reads is the same on both sides: the calls with two numbers are not among those that wait
 one-or-other : (P : ℕ → Type 0) (k l c : ℕ) → P k → P l → either (eqb c k) (eqb c l) ≡ true → P c
@@ -265,13 +262,11 @@ module _ {S T : Type 0} {R : Recorder S} {Q : Recorder T} (σ : Simulation R Q) 
       rw (counts a) (sim-labels 0 (Q .count (d .state)) (g .marks) a) in
       rw (counts b) (sim-indices 0 _ (g .marks) b)
 
-  -- the whole, where End fits too; clean_up is the recorders' own
-  pub sim-close : ((s : S) (u : T) → σ .Sim s u → σ .Room u → σ .Sim (R .cleanUp s) (Q .cleanUp u)) → {w : T} {c : Lines S} {d : Lines T} → GoesLines w c d
-      → σ .Room (d .state) → σ .Sim (closeUp R c) (closeUp Q d)
+  -- the whole, where End fits too
+  pub sim-close : {w : T} {c : Lines S} {d : Lines T} → GoesLines w c d → σ .Room (d .state) → σ .Done (closeUp R c) (closeUp Q d)
   unfolding closeUp
-  sim-close clean g r = let z = sim-resolved g (σ .room-fits _ r) in clean _ _ (z .goes .sim) (z .room r)
+  sim-close g r = let z = sim-resolved g (σ .room-fits _ r) in σ .cleanUp _ _ (z .goes .sim) (z .room r)
 
-  pub sim-program : ((s : S) (u : T) → σ .Sim s u → σ .Room u → σ .Sim (R .cleanUp s) (Q .cleanUp u)) → (t : List ℕ) {s : S} {u : T} (ls : List ProgramLine)
-      → σ .Sim s u → σ .Room (compileLines Q t ls (firstLine Q t u) .state)
-      → σ .Sim (closeUp R (compileLines R t ls (firstLine R t s))) (closeUp Q (compileLines Q t ls (firstLine Q t u)))
-  sim-program clean t ls m r = sim-close clean (sim-lines t ls (sim-first t m)) r
+  pub sim-program : (t : List ℕ) {s : S} {u : T} (ls : List ProgramLine) → σ .Sim s u → σ .Room (compileLines Q t ls (firstLine Q t u) .state)
+      → σ .Done (closeUp R (compileLines R t ls (firstLine R t s))) (closeUp Q (compileLines Q t ls (firstLine Q t u)))
+  sim-program t ls m r = sim-close (sim-lines t ls (sim-first t m)) r

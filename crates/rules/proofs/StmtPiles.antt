@@ -20,7 +20,7 @@ use Rattle.rules.specs.Types.{matchesType, exactMatches, typeNumber}
 use Rattle.rules.specs.Tables.{signatures, signatureOf, wanted, tab, spc, realOfReal}
 use Rattle.rules.specs.Expr.{Out, compileSym, funcName, realSym, textNode, compileExpr, compileArgs, compileTyped, compileLvalue}
 use Rattle.rules.specs.Stmt
-use Rattle.rules.specs.Missing.{All, Present, IfGiven, WholeExpr, WholeExprs, WholeElement, WholeSource, WholeWrite, writeEnds, endsWell}
+use Rattle.rules.specs.Missing.{All, Present, IfGiven, WholeExpr, WholeExprs, WholeElement, WholeSource, WholeWrite, valueCalls, endsWell}
 use Rattle.rules.specs.Piles.{num, txt, plc, Pile, Want, aText, anyPlace, fits, taken, kindOf, numbers, wantsOf, step}
 use Rattle.rules.proofs.PileLaws.{Flow, Side, Jumps, isJumpCall, Never, Plain, plain-one, plainCall, flow-append}
 use Rattle.rules.proofs.Grown.{Code, seq, put, stay, emits, fails, warns, void, with-ok, dooms}
@@ -728,8 +728,8 @@ module _ (E : List Entry) (few : Few E) (t : List ℕ) (base : ℕ) where
   screen-left [] = refl
   screen-left (d ∷ ds) = refl
 
-  file-left : (ds : List WriteElement) → endsWell (writeEnds ds) ≡ true → left 1 ds ≡ []
-  unfolding writeEnds endsWell
+  file-left : (ds : List WriteElement) → endsWell (valueCalls 1 ds) ≡ true → left 1 ds ≡ []
+  unfolding valueCalls endsWell
   file-left [] e = let z : _≡_ {A = ℕ} 0 1 = cc in absurd (omega arith)
   file-left (d ∷ ds) e = refl
 
@@ -740,7 +740,7 @@ module _ (E : List Entry) (few : Few E) (t : List ℕ) (base : ℕ) where
       (with-ok E {A = λ xs. Plain E xs [] (left 0 ds)} 0 (omega arith) (writes-code 0 ds i (inl refl)) (λ w. w .1) (λ w xs u. rw (screen-left ds) at u))
       (omega arith) (rec 43 (j .line) r 0 0 0) (λ xs u. flow-append u (none-step 43 (j .line) r (inr refl)))
   write-code r (given e) ds i =
-      let W = (WholeExpr e × (endsWell (writeEnds ds) ≡ true)) × All WholeDatum ds in
+      let W = (WholeExpr e × (endsWell (valueCalls 1 ds) ≡ true)) × All WholeDatum ds in
       seq E {d₁ = 0} {d₂ = 0} {W₂ = W} {W = W} {A = Tn (λ P. P) (λ P. num ∷ P)} {B = λ xs. Plain E xs (num ∷ []) []} {C = Fl} (pushed E few t base Real tt e i)
       (with-ok E {A = λ xs. Plain E xs (num ∷ []) (left 1 ds)} 0 (omega arith) (writes-code 1 ds (compileTyped R t base Real e i) (inr refl)) (λ w. w .1) (λ w xs u. rw (file-left ds (w .0 .1)) at u))
       (λ w. w .0 .0) (λ w. w) (λ xs ys u v. flow-append (u []) v)

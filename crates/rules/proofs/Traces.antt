@@ -9,7 +9,7 @@ use Rattle.recorder.specs.Ideal.{Rec, noRec, Entry}
 use Rattle.sheet.specs.Tree.{Opt, absent, given}
 use Rattle.rules.specs.Missing.{All}
 use Rattle.rules.specs.Piles.{Pile, step}
-use Rattle.rules.proofs.PileLaws.{andThen, pileIn, quietCall, fixedTargets, isJumpCall, Jumps, jumps-append, Flow}
+use Rattle.rules.proofs.PileLaws.{andThen, pileIn, quietCall, fixedTargets, isJumpCall, Jumps, jumps-append, Flow, Ahead}
 
 pub record Quiet (r : Rec) (Q : Pile) (rs : List Rec) : Type 0 where
   pub quiet : quietCall (r .call) ≡ true → Q ≡ []
@@ -93,6 +93,7 @@ pub record Alike (E : List Entry) (Z T : Rec → Type 0) (r u : Rec) : Type 0 wh
   pub steps : (P : Pile) → step E u P ≡ step E r P
   pub call : u .call ≡ r .call
   pub count : r .call ≡ 22 → u .a ≡ r .a
+  pub end : r .call ≡ 26 → u .c ≡ r .c
   pub asked : Z r → T u
 
 zip-jumps : {E : List Entry} {Z T : Rec → Type 0} {rs us : List Rec} (n : ℕ) → Zip (Alike E Z T) rs us → Jumps n rs → Jumps n us
@@ -116,6 +117,10 @@ zip-pile {E} (more {r = r} {u = u} {rs = rs} {us = us} l z) P (suc k) = rw (l .s
     next : (o : Opt Pile) → ((Q : Pile) → pileIn E us Q k ≡ pileIn E rs Q k) → andThen o (λ Q. pileIn E us Q k) ≡ andThen o (λ Q. pileIn E rs Q k)
     next absent f = refl
     next (given Q) f = f Q
+
+pub zip-ahead : {E : List Entry} {Z T : Rec → Type 0} {rs us : List Rec} (B : ℕ) → Zip (Alike E Z T) rs us → Ahead B rs → Ahead B us
+zip-ahead B none a = tt
+zip-ahead B (more l z) a = (λ e. let f = sym (l .call) ∙ e in rw (l .end f) (a .0 f), zip-ahead (suc B) z (a .1))
 
 pub zip-call : {E : List Entry} {Z T : Rec → Type 0} {rs us : List Rec} → Zip (Alike E Z T) rs us → (k : ℕ) → getD us k noRec .call ≡ getD rs k noRec .call
 zip-call none k = refl

@@ -144,12 +144,13 @@ statementEdges s t = linesEdges t (programAt s) (firstLine (rulesR t) t (ideal [
 
 -- "With these piles ..."
 pub record Orderly (edges : List ℕ) (rs : List Rec) (ps : List Pile) : Type 0 where
-  -- "every statement begins and ends with the pile empty"
-  pub statements : All (λ k. pileAt ps k ≡ []) edges
+  -- "every statement begins and ends with the pile empty", at an instruction of the list
+  pub statements : All (λ k. (k < length rs) × (pileAt ps k ≡ [])) edges
   -- "a function's body makes one number out of an empty pile and nothing besides": from behind a 26 up to the 27 just
-  -- before that 26's end
-  pub bodyBegins : (k : ℕ) → k < length rs → recAt rs k .call ≡ 26 → pileAt ps (k + 1) ≡ []
-  pub bodyCloses : (k : ℕ) → k < length rs → recAt rs k .call ≡ 26 → recAt rs (recAt rs k .c - 1) .call ≡ 27
+  -- before that 26's end, which stands behind the 26; all of it in the list
+  pub bodyBegins : (k : ℕ) → k < length rs → recAt rs k .call ≡ 26 → (k + 1 < length rs) × (pileAt ps (k + 1) ≡ [])
+  pub bodyCloses : (k : ℕ) → k < length rs → recAt rs k .call ≡ 26
+      → (k < recAt rs k .c - 1) × (recAt rs k .c - 1 < length rs) × (recAt rs (recAt rs k .c - 1) .call ≡ 27)
   pub bodyEnds : (k : ℕ) → k < length rs → recAt rs k .call ≡ 26 → pileAt ps (recAt rs k .c - 1) ≡ num ∷ []
   -- "every target is an instruction of the list where the pile is empty"
   pub onTargets : (k : ℕ) → k < length rs → All (λ v. (v < length rs) × (pileAt ps v ≡ [])) (targets (recAt rs k))

@@ -5,7 +5,9 @@ pub mod Expr
 pub mod Stmt
 pub mod Program
 pub mod Outcome
+pub mod Held
 pub mod Missing
 pub mod Piles
 pub mod Demand
+pub mod Writes
 pub mod Pairs

@@ -1,14 +1,14 @@
 -- "Missing parts are an Error expression, a Range option absent as name, parameter, function or counter, mode Error, and the end
 -- of a WRITE to a file that makes no call 44 or 45, or of which not just the last such call has end 1."
--- Whole.. says that a part of the tree has none of them.
+-- Whole.. says that a part of the tree has none of them. Writes.antt has the clause about WRITE on the list that the rules make, where
+-- it never holds.
 use mathlib.Core.Path.{_≡_}
 use mathlib.Core.List.{List, [], _∷_}
 use mathlib.Core.Bool.{Bool, true, false}
 use Prim.Native.Nat.{ℕ}
 use lib.Dec.{eqb}
-use Rattle.recorder.specs.Word.{pick, both, either}
-use Rattle.recorder.specs.declared.word.Range.{Range}
-use Rattle.sheet.specs.Tree.{Opt, absent, given, Expr, ident, stringLit, numberLit, sysFuncCall, userFuncCall, binary, unary, index, inkey, error, Exprs, none, more, Datum, FieldSpec, Target, OnTarget, Len, WriteElement, PrintElement, value, comma, semicolon, InputSource, keyboard, file, Stmt, rem, op₀, op₁, op₂, op₃, draw, set, dataList, def, dim, field, for, go, ifThen, ifElse, input, assign, load, locate, next-of, on, open-file, print, read, restore, swap, system, while, write, Stmts, end, then, ProgramLine}
+use Rattle.recorder.specs.Word.{pick, either}
+use Rattle.sheet.specs.Tree.{Opt, absent, given, Expr, ident, stringLit, numberLit, sysFuncCall, userFuncCall, binary, unary, index, inkey, error, Exprs, none, more, FieldSpec, Len, WriteElement, PrintElement, value, comma, semicolon, InputSource, keyboard, file, Stmt, rem, op₀, op₁, op₂, op₃, draw, set, dataList, def, dim, field, for, go, ifThen, ifElse, input, assign, load, locate, next-of, on, open-file, print, read, restore, swap, system, while, write, Stmts, end, then, ProgramLine}
 use Rattle.rules.specs.Stmt.{isLast, flagOf}
 
 -- every item of a list
@@ -51,19 +51,29 @@ abbrev pub WholeSource : InputSource → Type 0
 WholeSource (keyboard p) = Unit {0}
 WholeSource (file e) = WholeExpr e
 
--- the arguments `end` of the calls 44 and 45 that a WRITE makes: only the last is 1
-unfoldable pub writeEnds : List WriteElement → List ℕ
-writeEnds [] = []
-writeEnds (d ∷ ds) = pick (either (isLast ds) (eqb (d .comma) 1)) (flagOf (isLast ds) ∷ writeEnds ds) (writeEnds ds)
+-- "44 emit_write_num, 45 emit_write_str (to file, end)": the two arguments of such a call
+pub record WriteCall : Type 0 where
+  pub toFile : ℕ
+  pub atEnd : ℕ
 
-unfoldable pub endsWell : List ℕ → Bool
+abbrev pub writeCall : ℕ → ℕ → WriteCall
+writeCall f e = record { toFile = f; atEnd = e }
+
+-- the calls that the values of a WRITE make: a value that is not the last and has no comma behind it is dropped
+unfoldable pub valueCalls : ℕ → List WriteElement → List WriteCall
+valueCalls f [] = []
+valueCalls f (d ∷ ds) =
+    pick (either (isLast ds) (eqb (d .comma) 1)) (writeCall f (flagOf (isLast ds)) ∷ valueCalls f ds) (valueCalls f ds)
+
+-- not missing: there is a call, and "just the last such call has end 1"
+unfoldable pub endsWell : List WriteCall → Bool
 endsWell [] = false
-endsWell (x ∷ []) = eqb x 1
-endsWell (x ∷ y ∷ xs) = both (eqb x 0) (endsWell (y ∷ xs))
+endsWell (x ∷ []) = eqb (x .atEnd) 1
+endsWell (x ∷ y ∷ xs) = pick (eqb (x .atEnd) 1) false (endsWell (y ∷ xs))
 
 abbrev pub WholeWrite : Opt Expr → List WriteElement → Type 0
 WholeWrite absent ds = Unit {0}
-WholeWrite (given e) ds = WholeExpr e × (endsWell (writeEnds ds) ≡ true)
+WholeWrite (given e) ds = WholeExpr e × (endsWell (valueCalls 1 ds) ≡ true)
 
 abbrev mutual
   pub WholeStmt : Stmt → Type 0

@@ -40,7 +40,7 @@ pub lands-pick : (b : Bool) (v w : Walk) (x : ℕ) → Lands v x → Lands w x �
 lands-pick true v w x a b = a
 lands-pick false v w x a b = b
 
-lands-choose : (b : Bool) (f g : ℕ → Walk) (d e : ℕ → ℕ) (p : ℕ) → Lands (f p) (d p) → Lands (g p) (e p) → Lands (choose b f g p) (choose b d e p)
+pub lands-choose : (b : Bool) (f g : ℕ → Walk) (d e : ℕ → ℕ) (p : ℕ) → Lands (f p) (d p) → Lands (g p) (e p) → Lands (choose b f g p) (choose b d e p)
 lands-choose true f g d e p a b = a
 lands-choose false f g d e p a b = b
 
@@ -105,7 +105,7 @@ module _ (s : List ℕ) where
       element-lands zero p = below Expr p
       element-lands (suc n) p = range-lands line p
 
-      item-lands : (i : Item) (p : ℕ) → Lands (itemForm s t line child i p) (skipItem s skip i p)
+      pub item-lands : (i : Item) (p : ℕ) → Lands (itemForm s t line child i p) (skipItem s skip i p)
       unfolding itemForm skipItem
       item-lands Nothing p = lands-at p
       item-lands (Word k n) p = word-lands k n p
@@ -130,7 +130,7 @@ module _ (s : List ℕ) where
       expr-own-lands (suc zero) p = text-lands line p
       expr-own-lands (suc (suc k)) p = range-lands line p
 
-      own-lands : (c : Sort) (k p : ℕ) → Lands (itemForm s t line child (ownRange c k) p) (next s p)
+      pub own-lands : (c : Sort) (k p : ℕ) → Lands (itemForm s t line child (ownRange c k) p) (next s p)
       unfolding itemForm
       own-lands Expr k p = expr-own-lands k p
       own-lands Place k p = expr-own-lands k p
@@ -143,7 +143,7 @@ module _ (s : List ℕ) where
       repeat-lands zero p = lands-at p
       repeat-lands (suc n) p = lands-then _ _ (d p) _ (each p) (repeat-lands n (d p))
 
-      list-lands : (p : ℕ) → Lands (listForm s t line f p) (skipList s d p)
+      pub list-lands : (p : ℕ) → Lands (listForm s t line f p) (skipList s d p)
       unfolding listForm skipList
       list-lands p = lands-then _ _ (next s p) _ (word-lands 4 16777216 p) (repeat-lands (payloadAt s p) (next s p))
 
@@ -156,7 +156,7 @@ module _ (s : List ℕ) where
       times-lands OptionalList p = lands-choose (isAbsent s p) (absentForm s) (listForm s t line f) (next s) (skipList s d) p (word-lands 2 1 p) (list-lands p)
 
     module _ (child : Sort → ℕ → Walk) (skip : Sort → ℕ → ℕ) (below : (c : Sort) (p : ℕ) → Lands (child c p) (skip c p)) where
-      field-lands : (f : Field) (p : ℕ) → Lands (fieldForm s t line child f p) (skipField s skip f p)
+      pub field-lands : (f : Field) (p : ℕ) → Lands (fieldForm s t line child f p) (skipField s skip f p)
       unfolding fieldForm skipField
       field-lands f p = times-lands _ _ (pair-lands child skip below (f .first) (f .second)) (f .times) p
 
@@ -169,7 +169,7 @@ module _ (s : List ℕ) where
       unfolding bodyForm
       body-lands c k p = lands-then _ _ (next s p) _ (own-lands child skip below c k p) (fields-lands (fieldsOf c k) (next s p))
 
-    node-lands : (left : ℕ) (c : Sort) (p : ℕ) → Lands (nodeForm s t line left c p) (skipNode s left c p)
+    pub node-lands : (left : ℕ) (c : Sort) (p : ℕ) → Lands (nodeForm s t line left c p) (skipNode s left c p)
     unfolding nodeForm skipNode
     node-lands zero c p = lands-then _ _ (next s p) _ (head-lands c p) (lands-never _ p)
     node-lands (suc left) c p =

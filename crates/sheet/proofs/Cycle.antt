@@ -29,7 +29,7 @@ pub later : (s : List ℕ) (p q : ℕ) (w x : Walk) → Ends s p x → w ≡ x �
 later s p q w x h e k = let z : x ≡ Behind q = sym e ∙ k in let y : Ends s p (Behind q) = rw z at h in y .steps .later
 
 -- a head word that is good stands within the sheet
-kind-inside : (s : List ℕ) (p k : ℕ) → 0 < k → kindAt s p ≡ k → p < length s
+pub kind-inside : (s : List ℕ) (p k : ℕ) → 0 < k → kindAt s p ≡ k → p < length s
 kind-inside s p k h e = go (ltb p (length s)) refl
   where
     go : (b : Bool) → ltb p (length s) ≡ b → p < length s
@@ -42,11 +42,11 @@ node-kind-some Place = omega arith
 node-kind-some InputPlace = omega arith
 node-kind-some Stmt = omega arith
 
-both-left : (a b : Bool) → both a b ≡ true → a ≡ true
+pub both-left : (a b : Bool) → both a b ≡ true → a ≡ true
 both-left true b e = refl
 both-left false b e = e
 
-pick-behind : (b : Bool) (p q : ℕ) (o : Offence) → pick b (Behind p) (Stops o) ≡ Behind q → (b ≡ true) × (p ≡ q)
+pub pick-behind : (b : Bool) (p q : ℕ) (o : Offence) → pick b (Behind p) (Stops o) ≡ Behind q → (b ≡ true) × (p ≡ q)
 pick-behind true p q o e = (refl, cc)
 pick-behind false p q o e = let z : _≡_ {A = ℕ} 0 1 = cc in absurd (omega arith)
 

@@ -5,6 +5,7 @@ pub mod Cycle
 pub mod Lines
 pub mod Skips
 pub mod Within
+pub mod LinesFit
 pub mod Accepted
 pub mod Depth
 pub mod Local

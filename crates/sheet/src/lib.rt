@@ -6,6 +6,7 @@ ghost use Rattle.sheet.specs.Check.{hasSurrogate, checked};
 
 pub mod expr;
 pub mod form;
+pub mod reader;
 pub mod stmt;
 
 // Whether a unit is half of a pair.

@@ -1,6 +1,10 @@
 -- The code's table of shapes is that of the rules, and a shape's fields are those of the form's table.
 use mathlib.Core.Path.{_≡_, refl, sym, ap, _∙_}
 use mathlib.Core.List.{List, [], _∷_, map}
+use mathlib.Core.Bool.{Bool, true, false}
+use lib.Dec.{ltb}
+use borrow.Author.Tests.{ltb-true}
+use Rattle.recorder.specs.Word.{both}
 use Prim.Native.Nat.{ℕ, zero, suc, _≤_, _<_}
 use native.Mathlib.Omega.{arith}
 use lib.ListN.{getD, length, List·getD-map, List·getD-eq-default}
@@ -26,11 +30,30 @@ same-default [] i d e h = absurd (omega arith)
 same-default (x ∷ l) zero d e h = refl
 same-default (x ∷ l) (suc i) d e h = same-default l i d e (omega arith)
 
-pub shape-in : (k n : ℕ) (x : Shape) → k < 72 → n ≡ getD codes k 0 → x ≡ shapeBy n → x ≡ shapeOf k
-shape-in k n x h e f = rw (f, e, same-default codes k 0 1 h) (code-rule k)
+-- every shape's place is below 31
+allBelow : List ℕ → Bool
+allBelow [] = true
+allBelow (x ∷ l) = both (ltb x 31) (allBelow l)
 
-pub shape-out : (k : ℕ) → 72 ≤ k → NoOp ≡ shapeOf k
-shape-out k h = let e : getD codes k 1 ≡ 1 = List·getD-eq-default codes 1 h in rw e at (code-rule k)
+both-two : (a b : Bool) → both a b ≡ true → (a ≡ true) × (b ≡ true)
+both-two true b e = (refl, e)
+both-two false b e = absurd (let z : _≡_ {A = ℕ} 0 1 = cc in omega arith)
+
+below : (l : List ℕ) (k : ℕ) → allBelow l ≡ true → getD l k 1 < 31
+unfolding allBelow
+below [] k e = omega arith
+below (x ∷ l) zero e = ltb-true x 31 (both-two (ltb x 31) (allBelow l) e .0)
+below (x ∷ l) (suc k) e = below l k (both-two (ltb x 31) (allBelow l) e .1)
+
+codes-below : (k : ℕ) → getD codes k 1 < 31
+unfolding allBelow
+codes-below k = below codes k refl
+
+pub shape-in : (k n : ℕ) → k < 72 → n ≡ getD codes k 0 → (shapeBy n ≡ shapeOf k) × (n < 31)
+shape-in k n h e = rw (e, same-default codes k 0 1 h) (code-rule k, codes-below k)
+
+pub shape-out : (k : ℕ) → 72 ≤ k → (shapeBy 1 ≡ shapeOf k) × (1 < 31)
+shape-out k h = let e : getD codes k 1 ≡ 1 = List·getD-eq-default codes 1 h in (rw e at (code-rule k), omega arith)
 
 -- the fields of a statement are those of its shape
 pub fields-rule : (k : ℕ) → shapeFields (shapeOf k) ≡ stmtFields k

@@ -1,2 +1,4 @@
-// Statements and lines compiled: the first half of compiler.rs.
+// Statements compiled: compile_stmt and compile_if of compiler.rs, over the functions for each kind of statement.
+pub mod plain;
 pub mod shape;
+pub mod stmt;

@@ -1,6 +1,6 @@
 // The shape of each case of StmtKind.
-use sheet::form::Shape;
 ghost use mathlib.Core.Path.{_≡_};
+ghost use Prim.Native.Nat.{_<_};
 ghost use Rattle.sheet.specs.Tree.{shapeOf};
 ghost use Rattle.statements.specs.Shapes.{shapeBy};
 
@@ -80,51 +80,13 @@ const SHAPES: [u8; 72] = [
     1,
 ];
 
-fn shape_by(n: u8) -> Shape
-    ensures { λ r. ⌜ r ≡ shapeBy n ⌝ }
-{
-    match n {
-        1 => Shape::NoOp,
-        2 => Shape::Op0,
-        3 => Shape::Run,
-        4 => Shape::Op1,
-        5 => Shape::Op2,
-        6 => Shape::Op3,
-        7 => Shape::Draw,
-        8 => Shape::Set,
-        9 => Shape::Data,
-        10 => Shape::Def,
-        11 => Shape::Dim,
-        12 => Shape::Field,
-        13 => Shape::For,
-        14 => Shape::GoSub,
-        15 => Shape::GoTo,
-        16 => Shape::If,
-        17 => Shape::Input,
-        18 => Shape::Let,
-        19 => Shape::Load,
-        20 => Shape::Locate,
-        21 => Shape::Next,
-        22 => Shape::On,
-        23 => Shape::Open,
-        24 => Shape::Print,
-        25 => Shape::Read,
-        26 => Shape::Restore,
-        27 => Shape::Swap,
-        28 => Shape::System,
-        29 => Shape::While,
-        30 => Shape::Write,
-        _ => Shape::Rem,
-    }
-}
-
-pub fn shape_of(k: u32) -> Shape
-    ensures { λ r. ⌜ r ≡ shapeOf k ⌝ }
+pub fn shape_of(k: u32) -> u8
+    ensures { λ r. ⌜ (shapeBy r ≡ shapeOf k) × (r < 31) ⌝ }
 {
     if k < 72 {
         let i = k as usize;
-        shape_by(SHAPES[i])
+        SHAPES[i]
     } else {
-        Shape::NoOp
+        1
     }
 }

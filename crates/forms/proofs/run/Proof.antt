@@ -14,47 +14,47 @@ Inv-loop words₀ units₀ turns₀ words units turns = (length words ≡ length
 abbrev μ-loop : tie.MeasureT-loop
 μ-loop words₀ units₀ turns₀ words units turns = turns
 
--- src/main.rt:128:5
+-- src/main.rt:37:5
 loop-holds : tie.Need-loop-holds Inv-loop μ-loop
 loop-holds c = (refl, refl)
 
--- src/main.rt:128:24
+-- src/main.rt:37:24
 one-requires : tie.Need-one-requires Inv-loop μ-loop
 one-requires c κs = search needs
 
--- src/main.rt:129:9
+-- src/main.rt:38:9
 sub-turns : tie.Need-sub-turns Inv-loop μ-loop
 sub-turns c = omega arith
 
--- src/main.rt:128:5
+-- src/main.rt:37:5
 loop-less : tie.Need-loop-less Inv-loop μ-loop
 loop-less c = omega arith
 
--- src/main.rt:128:5
+-- src/main.rt:37:5
 loop-again : tie.Need-loop-again Inv-loop μ-loop
 loop-again c = (search needs, search needs)
 
--- src/main.rt:126:1
+-- src/main.rt:35:1
 same-length : tie.Need-same-length Inv-loop μ-loop
 same-length c = search needs
 
--- src/main.rt:126:1
+-- src/main.rt:35:1
 same-length-2 : tie.Need-same-length-2 Inv-loop μ-loop
 same-length-2 c = search needs
 
--- src/main.rt:126:1
+-- src/main.rt:35:1
 returns : tie.Need-returns Inv-loop μ-loop
 returns c = search needs
 
--- src/main.rt:126:1
+-- src/main.rt:35:1
 same-length-3 : tie.Need-same-length-3 Inv-loop μ-loop
 same-length-3 c = search needs
 
--- src/main.rt:126:1
+-- src/main.rt:35:1
 same-length-4 : tie.Need-same-length-4 Inv-loop μ-loop
 same-length-4 c = search needs
 
--- src/main.rt:126:1
+-- src/main.rt:35:1
 returns-2 : tie.Need-returns-2 Inv-loop μ-loop
 returns-2 c = search needs
 

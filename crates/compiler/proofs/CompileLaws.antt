@@ -1,0 +1,147 @@
+-- compile: one law for each way out.
+use mathlib.Core.Path.{_≡_, refl, sym, ap, _∙_}
+use mathlib.Core.Bool.{Bool, true, false}
+use mathlib.Core.List.{List}
+use Prim.Native.Nat.{ℕ, zero, suc, _*_, _≤_, _<_}
+use native.Mathlib.Omega.{arith}
+use borrow.Author.Tests.{le-leb, lt-leb}
+use lib.Dec.{ltb, leb}
+use lib.ListN.{length, replicate}
+use Rattle.recorder.specs.declared.codegen.St.{St}
+use Rattle.recorder.specs.Word.{pick, either, payloadAt}
+use Rattle.recorder.specs.Mem.{Mem, mem, memR, nothing}
+use Rattle.sheet.specs.declared.form.Checked.{Checked}
+use Rattle.sheet.specs.declared.form.Checked.the-variants.{Accepted, TooLong, Surrogate, WorkTooShort, Offends}
+use Rattle.sheet.specs.declared.form.Offence.the-variants.{BadWord, TooDeep, BadLength, BadRange, Fseek}
+use Rattle.sheet.specs.Check.{checked, refusalNumber, refusalPlace}
+use Rattle.sheet.specs.Tree.{programAt}
+use Rattle.sheet.proofs.LinesFit.{lines-fit}
+use Rattle.rules.specs.Program.{Lines, firstLine, compileLines, closeUp}
+use Rattle.rules.specs.Outcome.{Outcome, Lengths, lengths, refused, mostRecords, finished, sized, outcomeBy, outcome}
+use Rattle.rules.specs.Held.{heldLines, heldAccepted, heldOutcome}
+use Rattle.rules.proofs.SimOutcome.{held-outcome}
+use Rattle.compiler.specs.declared.Answer.{Answer}
+use Rattle.compiler.specs.Marked.{MarksIn, Programmed}
+use Rattle.compiler.specs.Answered.{outcomeOf, sizedHeld}
+
+-- refusals 1 to 8
+refused-by : (c : Checked) (s t : List ℕ) (L : Lengths) → (refusalNumber c ≡ 0 → ⊥) → refused (refusalNumber c) (refusalPlace c) L ≡ outcomeBy c s t L
+refused-by Accepted s t L h = absurd (h refl)
+refused-by TooLong s t L h = refl
+refused-by Surrogate s t L h = refl
+refused-by WorkTooShort s t L h = refl
+refused-by (Offends o) s t L h = refl
+
+pub refused-is : (s t : List ℕ) (L : Lengths) (c : Checked) (k p : ℕ) (o : Outcome) → c ≡ checked s t (L .work) → k ≡ refusalNumber c → (k ≡ 0 → ⊥) → p ≡ refusalPlace c
+    → o ≡ refused k p L → o ≡ outcome s t L
+unfolding outcome
+refused-is s t L c k p o hc hk d hp e =
+    let g : (refusalNumber c ≡ 0 → ⊥) = λ z. d (hk ∙ z) in
+    e ∙ ap (λ (n : ℕ). refused n p L) hk ∙ ap (λ (n : ℕ). refused (refusalNumber c) n L) hp ∙ refused-by c s t L g ∙ ap (λ (x : Checked). outcomeBy x s t L) hc
+
+-- no refusal: the form is good
+number-none : (c : Checked) → refusalNumber c ≡ 0 → c ≡ Accepted
+number-none Accepted e = refl
+number-none TooLong e = absurd (omega arith)
+number-none Surrogate e = absurd (omega arith)
+number-none WorkTooShort e = absurd (omega arith)
+number-none (Offends (BadWord p)) e = absurd (omega arith)
+number-none (Offends (TooDeep p)) e = absurd (omega arith)
+number-none (Offends (BadLength p)) e = absurd (omega arith)
+number-none (Offends (BadRange p)) e = absurd (omega arith)
+number-none (Offends (Fseek p)) e = absurd (omega arith)
+
+good : (s t : List ℕ) (work : ℕ) (c : Checked) (k : ℕ) → c ≡ checked s t work → k ≡ refusalNumber c → k ≡ 0 → checked s t work ≡ Accepted
+good s t work c k hc hk d = sym hc ∙ number-none c (sym hk ∙ d)
+
+pub lines-room : (s t : List ℕ) (work work1 : ℕ) (c : Checked) (k : ℕ) → c ≡ checked s t work → k ≡ refusalNumber c → k ≡ 0 → work1 ≡ work → 3 * payloadAt s 0 ≤ work1
+lines-room s t work work1 c k hc hk d h = omega (arith, h, lines-fit s t work (good s t work c k hc hk d))
+
+pub accepted-is : (s t : List ℕ) (L : Lengths) (c : Checked) (k : ℕ) (o : Outcome) → c ≡ checked s t (L .work) → k ≡ refusalNumber c → k ≡ 0
+    → o ≡ sized (finished s t) L → o ≡ outcome s t L
+unfolding outcome
+accepted-is s t L c k o hc hk d e = rw (good s t (L .work) c k hc hk d) e
+
+-- the sizes
+pub notes-full : (L : Lengths) (m : Mem) (o : Outcome) → m .st .nfull ≡ true → o ≡ refused 10 0 L → o ≡ sizedHeld L m
+notes-full L m o h e = rw h e
+
+pub book-full : (L : Lengths) (m : Mem) (o : Outcome) → m .st .nfull ≡ false → m .st .bfull ≡ true → o ≡ refused 11 0 L → o ≡ sizedHeld L m
+book-full L m o h i e = rw (h, i) e
+
+pub all-fit : (L : Lengths) (l n b w : List ℕ) (st : St) → st .nfull ≡ false → st .bfull ≡ false → w ≡ replicate (L .work) 0
+    → outcomeOf (record { refusal = 0; place = 0; records = st .records; notes = st .notes; entries = st .entries }) l n b w ≡ sizedHeld L (mem l n b st)
+all-fit L l n b w st h i e = rw (h, i, e)
+
+-- 9, known once the lines are compiled
+list-full : (L : Lengths) (m₁ m₂ : Mem) (o : Outcome) → m₁ .st .lfull ≡ true → o ≡ refused 9 0 L → o ≡ heldOutcome L m₁ m₂
+list-full L m₁ m₂ o h e = rw h e
+
+no-room : (L : Lengths) (m₁ m₂ : Mem) (o : Outcome) → m₁ .st .lfull ≡ false → mostRecords (L .list) ≤ m₁ .st .records → o ≡ refused 9 0 L → o ≡ heldOutcome L m₁ m₂
+no-room L m₁ m₂ o h i e = rw (h, le-leb (mostRecords (L .list)) (m₁ .st .records) i) e
+
+room : (L : Lengths) (m₁ m₂ : Mem) (o : Outcome) → m₁ .st .lfull ≡ false → m₁ .st .records < mostRecords (L .list) → o ≡ sizedHeld L m₂ → o ≡ heldOutcome L m₁ m₂
+room L m₁ m₂ o h i e = rw (h, lt-leb (mostRecords (L .list)) (m₁ .st .records) i) e
+
+-- the lengths that stay
+same-lengths : (l n b w : List ℕ) (i j k h : ℕ) → i ≡ length l → j ≡ length n → k ≡ length b → h ≡ length w → lengths i j k h ≡ lengths (length l) (length n) (length b) (length w)
+same-lengths l n b w i j k h hl hn hb hw = rw (hl, hn, hb, hw)
+
+pub zeros-again : (l : List ℕ) (n i : ℕ) → l ≡ replicate n 0 → i ≡ n → l ≡ replicate i 0
+zeros-again l n i e h = e ∙ ap (λ (k : ℕ). replicate k 0) (sym h)
+
+-- zeros lent: the run is the memory's
+zeros : (l n b : List ℕ) (st : St) → st ≡ nothing → l ≡ replicate (length l) 0 → n ≡ replicate (length n) 0 → b ≡ replicate (length b) 0
+    → mem l n b st ≡ mem (replicate (length l) 0) (replicate (length n) 0) (replicate (length b) 0) nothing
+zeros l n b st e hl hn hb =
+    ap (λ (x : List ℕ). mem x n b st) hl ∙ ap (λ (x : List ℕ). mem (replicate (length l) 0) x b st) hn
+    ∙ ap (λ (x : List ℕ). mem (replicate (length l) 0) (replicate (length n) 0) x st) hb ∙ ap (λ (x : St). mem (replicate (length l) 0) (replicate (length n) 0) (replicate (length b) 0) x) e
+
+pub record Held (s t : List ℕ) (L : Lengths) (m₁ : Mem) (w₁ : List ℕ) (k : ℕ) (rising : Bool) : Type 0 where
+  pub state : m₁ ≡ heldLines s t L .state
+  pub marks : MarksIn w₁ k rising (heldLines s t L .marks)
+
+pub held : (s t l n b w : List ℕ) (st : St) (m₁ : Mem) (w₁ : List ℕ) (k : ℕ) (rising : Bool) → st ≡ nothing → l ≡ replicate (length l) 0 → n ≡ replicate (length n) 0 → b ≡ replicate (length b) 0
+    → Programmed s t (mem l n b st) m₁ w₁ k rising → Held s t (lengths (length l) (length n) (length b) (length w)) m₁ w₁ k rising
+held s t l n b w st m₁ w₁ k rising e hl hn hb p =
+    let q : Programmed s t (mem (replicate (length l) 0) (replicate (length n) 0) (replicate (length b) 0) nothing) m₁ w₁ k rising = rw (zeros l n b st e hl hn hb) at p in
+    record { state = q .state; marks = q .marks }
+
+-- the three ways out of compile_accepted; i to h are the lengths of list, notes, book and work on the way
+pub whole-full : (s t l n b w : List ℕ) (i j k h : ℕ) (m₁ : Mem) (w₁ : List ℕ) (c : ℕ) (rising : Bool) (o : Outcome)
+    → i ≡ length l → j ≡ length n → k ≡ length b → h ≡ length w → Held s t (lengths (length l) (length n) (length b) (length w)) m₁ w₁ c rising → m₁ .st .lfull ≡ true
+    → o ≡ refused 9 0 (lengths i j k h) → o ≡ sized (finished s t) (lengths (length l) (length n) (length b) (length w))
+whole-full s t l n b w i j k h m₁ w₁ c rising o hl hn hb hw x f e =
+    let L = lengths (length l) (length n) (length b) (length w) in
+    list-full L (heldLines s t L .state) (closeUp (memR t) (heldLines s t L)) o (rw (x .state) at f)
+    (e ∙ ap (λ (y : Lengths). refused 9 0 y) (same-lengths l n b w i j k h hl hn hb hw)) ∙ held-outcome s t L
+
+pub whole-no-room : (s t l n b w : List ℕ) (i j k h : ℕ) (m₁ : Mem) (w₁ : List ℕ) (c : ℕ) (rising : Bool) (r : ℕ) (o : Outcome)
+    → i ≡ length l → j ≡ length n → k ≡ length b → h ≡ length w → Held s t (lengths (length l) (length n) (length b) (length w)) m₁ w₁ c rising → m₁ .st .lfull ≡ false
+    → r ≡ mostRecords i → r ≤ m₁ .st .records → o ≡ refused 9 0 (lengths i j k h) → o ≡ sized (finished s t) (lengths (length l) (length n) (length b) (length w))
+whole-no-room s t l n b w i j k h m₁ w₁ c rising r o hl hn hb hw x f hr g e =
+    let L = lengths (length l) (length n) (length b) (length w) in
+    let y : mostRecords (length l) ≤ m₁ .st .records = rw (hr, hl) at g in
+    no-room L (heldLines s t L .state) (closeUp (memR t) (heldLines s t L)) o (rw (x .state) at f) (rw (x .state) at y)
+    (e ∙ ap (λ (z : Lengths). refused 9 0 z) (same-lengths l n b w i j k h hl hn hb hw)) ∙ held-outcome s t L
+
+pub whole-sized : (s t l n b w l1 n1 b1 w1 l2 n2 : List ℕ) (i k h i2 j2 : ℕ) (m₁ : Mem) (c : ℕ) (rising : Bool) (r : ℕ) (st st2 : St) (o : Outcome)
+    → i ≡ length l → k ≡ length b → h ≡ length w → i2 ≡ length l → j2 ≡ length n
+    → m₁ ≡ mem l1 n1 b1 st → Held s t (lengths (length l) (length n) (length b) (length w)) m₁ w1 c rising → m₁ .st .lfull ≡ false → r ≡ mostRecords i → m₁ .st .records < r
+    → ((t b : List ℕ) (c′ : Lines Mem) → c′ .state ≡ mem l1 n1 b st → MarksIn w1 c rising (c′ .marks) → mem l2 n2 b st2 ≡ closeUp (memR t) c′)
+    → o ≡ sizedHeld (lengths i2 j2 k h) (mem l2 n2 b1 st2) → o ≡ sized (finished s t) (lengths (length l) (length n) (length b) (length w))
+whole-sized s t l n b w l1 n1 b1 w1 l2 n2 i k h i2 j2 m₁ c rising r st st2 o hl hb hw hl2 hn2 hm x f hr g close e =
+    let L = lengths (length l) (length n) (length b) (length w) in
+    let y : m₁ .st .records < mostRecords (length l) = rw (hr, hl) at g in
+    let z : mem l2 n2 b1 st2 ≡ closeUp (memR t) (heldLines s t L) = close t b1 (heldLines s t L) (sym (x .state) ∙ hm) (x .marks) in
+    room L (heldLines s t L .state) (closeUp (memR t) (heldLines s t L)) o (rw (x .state) at f) (rw (x .state) at y)
+    (e ∙ ap (λ (u : Lengths). sizedHeld u (mem l2 n2 b1 st2)) (same-lengths l n b w i2 j2 k h hl2 hn2 hb hw) ∙ ap (λ (u : Mem). sizedHeld L u) z) ∙ held-outcome s t L
+
+-- compile's own way on: what was cleared has its length still
+pub same-sized : (s t l n b w : List ℕ) (i j k h : ℕ) (o : Outcome) → i ≡ length l → j ≡ length n → k ≡ length b → h ≡ length w
+    → o ≡ sized (finished s t) (lengths i j k h) → o ≡ sized (finished s t) (lengths (length l) (length n) (length b) (length w))
+same-sized s t l n b w i j k h o hl hn hb hw e = e ∙ ap (λ (x : Lengths). sized (finished s t) x) (same-lengths l n b w i j k h hl hn hb hw)
+
+pub cleared-refused : (l n b w l1 n1 b1 w1 : List ℕ) (k p : ℕ) → l1 ≡ replicate (length l) 0 → n1 ≡ replicate (length n) 0 → b1 ≡ replicate (length b) 0 → w1 ≡ replicate (length w) 0
+    → outcomeOf (record { refusal = k; place = p; records = 0; notes = 0; entries = 0 }) l1 n1 b1 w1 ≡ refused k p (lengths (length l) (length n) (length b) (length w))
+cleared-refused l n b w l1 n1 b1 w1 k p hl hn hb hw = rw (hl, hn, hb, hw)

@@ -1,0 +1,5 @@
+pub mod MarkLaws
+pub mod LineLaws
+pub mod ResolveLaws
+pub mod CompileLaws
+pub mod Demands

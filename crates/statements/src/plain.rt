@@ -1,0 +1,323 @@
+// Statements by their shapes' places in Shape, all but IF: each is compiled by its own function.
+use expressions::expr::Went;
+use recorder::codegen::St;
+use recorder::word::Range;
+ghost use mathlib.Core.Path.{_≡_};
+ghost use Prim.Native.Nat.{_≤_, _<_};
+ghost use Rattle.recorder.specs.Mem.{mem};
+ghost use Rattle.expressions.specs.Body.{Body};
+ghost use Rattle.statements.specs.Shapes.{shapeBy};
+
+fn rem_to_draw(
+    sheet: &[u32],
+    text: &[u16],
+    list: &mut [u32],
+    notes: &mut [u32],
+    book: &mut [u32],
+    st: St,
+    base: u32,
+    at: usize,
+    left: usize,
+    k: u32,
+    r: Range,
+    n: u8,
+) -> Went
+    ensures { λ x. ⌜ (n < 8 → Body (now (sheet .entry)) (now (text .entry)) base left (shapeBy n) k r at (mem (now (list .entry)) (now (notes .entry)) (now (book .entry)) st) (mem (now (list .exit)) (now (notes .exit)) (now (book .exit)) (x .st)) (x .at)) ⌝ }
+{
+    match n {
+        0 => operations::op::compile_rem(sheet, list, st, at, r),
+        1 => operations::op::compile_no_op(list, st, at, r),
+        2 => operations::op::compile_op(list, st, at, k, r),
+        3 => operations::op::compile_run(sheet, list, st, at, k, r),
+        4 => operations::op::compile_unary_stmt(
+            sheet,
+            text,
+            list,
+            notes,
+            book,
+            st,
+            base,
+            at,
+            left,
+            k,
+            r,
+        ),
+        5 => operations::op::compile_get_put(
+            sheet,
+            text,
+            list,
+            notes,
+            book,
+            st,
+            base,
+            at,
+            left,
+            k,
+            r,
+        ),
+        6 => operations::op::compile_fread_fwrite(
+            sheet,
+            text,
+            list,
+            notes,
+            book,
+            st,
+            base,
+            at,
+            left,
+            k,
+            r,
+        ),
+        7 => operations::draw::compile_draw_stmt(
+            sheet,
+            text,
+            list,
+            notes,
+            book,
+            st,
+            base,
+            at,
+            left,
+            k,
+            r,
+        ),
+        _ => Went { st, at },
+    }
+}
+
+fn set_to_goto(
+    sheet: &[u32],
+    text: &[u16],
+    list: &mut [u32],
+    notes: &mut [u32],
+    book: &mut [u32],
+    st: St,
+    base: u32,
+    at: usize,
+    left: usize,
+    k: u32,
+    r: Range,
+    n: u8,
+) -> Went
+    ensures { λ x. ⌜ (8 ≤ n → n < 16 → Body (now (sheet .entry)) (now (text .entry)) base left (shapeBy n) k r at (mem (now (list .entry)) (now (notes .entry)) (now (book .entry)) st) (mem (now (list .exit)) (now (notes .exit)) (now (book .exit)) (x .st)) (x .at)) ⌝ }
+{
+    match n {
+        8 => operations::op::compile_set(sheet, text, list, notes, book, st, base, at, left, k, r),
+        9 => declarations::data::compile_data(sheet, text, notes, book, st, base, at),
+        10 => declarations::define::compile_def(
+            sheet,
+            text,
+            list,
+            notes,
+            book,
+            st,
+            base,
+            at,
+            left,
+            r,
+        ),
+        11 => declarations::dim::compile_dim(sheet, text, list, notes, book, st, base, at, left),
+        12 => declarations::field::compile_field(
+            sheet,
+            text,
+            list,
+            notes,
+            book,
+            st,
+            base,
+            at,
+            left,
+            r,
+        ),
+        13 => declarations::count::compile_for(
+            sheet,
+            text,
+            list,
+            notes,
+            book,
+            st,
+            base,
+            at,
+            left,
+            r,
+        ),
+        14 => operations::jump::compile_gosub(sheet, list, st, at, r),
+        15 => operations::jump::compile_goto(sheet, list, st, at, r),
+        _ => Went { st, at },
+    }
+}
+
+fn input_to_open(
+    sheet: &[u32],
+    text: &[u16],
+    list: &mut [u32],
+    notes: &mut [u32],
+    book: &mut [u32],
+    st: St,
+    base: u32,
+    at: usize,
+    left: usize,
+    k: u32,
+    r: Range,
+    n: u8,
+) -> Went
+    ensures { λ x. ⌜ (17 ≤ n → n < 24 → Body (now (sheet .entry)) (now (text .entry)) base left (shapeBy n) k r at (mem (now (list .entry)) (now (notes .entry)) (now (book .entry)) st) (mem (now (list .exit)) (now (notes .exit)) (now (book .exit)) (x .st)) (x .at)) ⌝ }
+{
+    match n {
+        17 => declarations::input::compile_input(
+            sheet,
+            text,
+            list,
+            notes,
+            book,
+            st,
+            base,
+            at,
+            left,
+            r,
+        ),
+        18 => operations::place::compile_let(sheet, text, list, notes, book, st, base, at, left, r),
+        19 => transfers::loads::compile_load(
+            sheet,
+            text,
+            list,
+            notes,
+            book,
+            st,
+            base,
+            at,
+            left,
+            k,
+            r,
+        ),
+        20 => operations::place::compile_locate(
+            sheet,
+            text,
+            list,
+            notes,
+            book,
+            st,
+            base,
+            at,
+            left,
+            r,
+        ),
+        21 => declarations::count::compile_next(sheet, text, list, notes, book, st, base, at, r),
+        22 => operations::jump::compile_on(sheet, text, list, notes, book, st, base, at, left, r),
+        23 => transfers::opens::compile_open(
+            sheet,
+            text,
+            list,
+            notes,
+            book,
+            st,
+            base,
+            at,
+            left,
+            k,
+            r,
+        ),
+        _ => Went { st, at },
+    }
+}
+
+fn print_to_write(
+    sheet: &[u32],
+    text: &[u16],
+    list: &mut [u32],
+    notes: &mut [u32],
+    book: &mut [u32],
+    st: St,
+    base: u32,
+    at: usize,
+    left: usize,
+    k: u32,
+    r: Range,
+    n: u8,
+) -> Went
+    ensures { λ x. ⌜ (24 ≤ n → n < 31 → Body (now (sheet .entry)) (now (text .entry)) base left (shapeBy n) k r at (mem (now (list .entry)) (now (notes .entry)) (now (book .entry)) st) (mem (now (list .exit)) (now (notes .exit)) (now (book .exit)) (x .st)) (x .at)) ⌝ }
+{
+    match n {
+        24 => transfers::prints::compile_print(
+            sheet,
+            text,
+            list,
+            notes,
+            book,
+            st,
+            base,
+            at,
+            left,
+            k,
+            r,
+        ),
+        25 => operations::place::compile_read(
+            sheet,
+            text,
+            list,
+            notes,
+            book,
+            st,
+            base,
+            at,
+            left,
+            r,
+        ),
+        26 => operations::jump::compile_restore(sheet, list, st, at, r),
+        27 => operations::place::compile_swap(
+            sheet,
+            text,
+            list,
+            notes,
+            book,
+            st,
+            base,
+            at,
+            left,
+            r,
+        ),
+        28 => operations::op::compile_system(notes, st, at, r),
+        29 => operations::op::compile_while(sheet, text, list, notes, book, st, base, at, left, r),
+        30 => transfers::writes::compile_write(
+            sheet,
+            text,
+            list,
+            notes,
+            book,
+            st,
+            base,
+            at,
+            left,
+            k,
+            r,
+        ),
+        _ => Went { st, at },
+    }
+}
+
+pub fn compile_plain(
+    sheet: &[u32],
+    text: &[u16],
+    list: &mut [u32],
+    notes: &mut [u32],
+    book: &mut [u32],
+    st: St,
+    base: u32,
+    at: usize,
+    left: usize,
+    k: u32,
+    r: Range,
+    n: u8,
+) -> Went
+    ensures { λ x. ⌜ (n < 31 → (n ≡ 16 → ⊥) → Body (now (sheet .entry)) (now (text .entry)) base left (shapeBy n) k r at (mem (now (list .entry)) (now (notes .entry)) (now (book .entry)) st) (mem (now (list .exit)) (now (notes .exit)) (now (book .exit)) (x .st)) (x .at)) ⌝ }
+{
+    if n < 8 {
+        rem_to_draw(sheet, text, list, notes, book, st, base, at, left, k, r, n)
+    } else if n < 16 {
+        set_to_goto(sheet, text, list, notes, book, st, base, at, left, k, r, n)
+    } else if n < 24 {
+        input_to_open(sheet, text, list, notes, book, st, base, at, left, k, r, n)
+    } else {
+        print_to_write(sheet, text, list, notes, book, st, base, at, left, k, r, n)
+    }
+}
