@@ -1335,20 +1335,27 @@ fn signature(kind: SysFuncKind) -> (&'static [Want], Want) {
   }
 }
 
-/// Inputs that the random ones seldom are: every statement's case by itself,
-/// with options absent and present, from a fixed seed.
-pub fn one_of_each(round: u64) -> Vec<Input> {
-  let mut inputs = vec![];
-  for case in 0..72 {
-    let mut rng = Rng::at(0x0a11 + round, case as u64);
-    let style = Style {
+impl Style {
+  /// By turns whole and with missing parts, of right and of wrong kinds.
+  fn of_round(round: u64) -> Self {
+    Self {
       missing: if round % 3 == 2 { 12 } else { 0 },
       wrong: if round % 2 == 1 { 25 } else { 0 },
       odd_range: 0,
       free_value: 0,
       odd_name: 20,
       long_text: 3,
-    };
+    }
+  }
+}
+
+/// Inputs that the random ones seldom are: every statement's case by itself,
+/// with options absent and present, from a fixed seed.
+pub fn one_of_each(round: u64) -> Vec<Input> {
+  let mut inputs = vec![];
+  for case in 0..72 {
+    let mut rng = Rng::at(0x0a11 + round, case as u64);
+    let style = Style::of_round(round);
     let labels = [Some(10)];
     let mut maker = Maker {
       line: LineMaker::new(),
@@ -1374,14 +1381,7 @@ pub fn expression_sheets(count: u64) -> Vec<Input> {
   let mut inputs = vec![];
   for index in 0..count {
     let mut rng = Rng::at(0x0e58, index);
-    let style = Style {
-      missing: if index % 3 == 2 { 12 } else { 0 },
-      wrong: if index % 2 == 1 { 25 } else { 0 },
-      odd_range: 0,
-      free_value: 0,
-      odd_name: 20,
-      long_text: 3,
-    };
+    let style = Style::of_round(index);
     let mut maker = Maker {
       line: LineMaker::new(),
       rng: &mut rng,

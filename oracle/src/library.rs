@@ -28,25 +28,8 @@ impl Lent {
 }
 
 #[cfg(library)]
-mod linked {
-  unsafe extern "C" {
-    pub fn hollupsa_compile(
-      sheet: *const u32,
-      words: usize,
-      text: *const u16,
-      units: usize,
-      list: *mut u32,
-      list_words: usize,
-      notes: *mut u32,
-      notes_words: usize,
-      book: *mut u32,
-      book_words: usize,
-      work: *mut u32,
-      work_words: usize,
-      answer: *mut [usize; 5],
-    );
-  }
-}
+#[path = "../../bindings/rust/src/library.rs"]
+mod linked;
 
 /// Compiles into what is lent.
 #[cfg(library)]

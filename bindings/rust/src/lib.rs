@@ -7,31 +7,12 @@
 
 pub mod basic;
 mod encode;
+mod library;
 pub mod names;
 pub mod tree;
 
 use std::error::Error;
 use std::fmt;
-
-mod library {
-  unsafe extern "C" {
-    pub fn hollupsa_compile(
-      sheet: *const u32,
-      words: usize,
-      text: *const u16,
-      units: usize,
-      list: *mut u32,
-      list_words: usize,
-      notes: *mut u32,
-      notes_words: usize,
-      book: *mut u32,
-      book_words: usize,
-      work: *mut u32,
-      work_words: usize,
-      answer: *mut [usize; 5],
-    );
-  }
-}
 
 /// The five numbers of an answer: all zeros but for the counts if accepted, all
 /// zeros but for number and place if refused.
