@@ -2,23 +2,22 @@
 use mathlib.Core.Path.{_≡_, refl, sym, ap, _∙_}
 use mathlib.Core.List.{List}
 use mathlib.Core.Bool.{Bool, true, false}
-use Prim.Native.Nat.{ℕ, zero, suc, _+_, _*_, _-_, _≤_, _<_, _/_, _^_}
+use Prim.Native.Nat.{ℕ, zero, suc, _+_, _*_, _-_, _≤_, _<_, _/_, _%_, _^_}
 use lib.Dec.{ltb, eqb}
-use lib.ListN.{length, getD}
+use lib.ListN.{length, getD, set}
+use lib.Seq.{set-out}
 use borrow.Author.Tests.{lt-ltb, le-ltb, eq-eqb, ne-eqb, eqb-true, eqb-false}
 use borrow.Rule.Slice.PartMut.{midOf, putMid}
 use native.Mathlib.Numerals.{sub-one}
 use native.Mathlib.Nat.{pow-le-pow-right, one-le-pow, pow-suc, div-mul-le-self}
 use native.Mathlib.Omega.{arith}
 use Rattle.recorder.specs.declared.codegen.St.{St}
-use Rattle.recorder.specs.Word.{pick, both, either, wordOf}
+use Rattle.recorder.specs.Word.{pick, both, either, kindAt, wordOf}
 use Rattle.recorder.specs.Ideal.{Rec, noRange}
 use Rattle.recorder.specs.Closing.{isWhile, isWend, isOne, isEnd, isNextOf, upTo, roundUp}
-use Rattle.recorder.specs.Mem.{putRec, putSt, noteList, noteSt, recOf, setB, atRec, whileList, whileTop, whilesFrom, topFrom, Passed, passed, openFrom, present, patchWhiles, unitOf, rewrite, wholeAt, delayList, delaysFrom, convertDelays, cleanUpAll}
+use Rattle.recorder.specs.Mem.{putRec, putSt, noteList, noteSt, recOf, setB, atRec, whileList, whileTop, whilesFrom, topFrom, Passed, passed, openFrom, present, patchWhiles, unitOf, rewrite, wholeAt, delayList, delaysFrom, convertDelays, cleanUpAll, known, sigilOf, unlinkAt, unlinkFrom, unlinked}
 use Rattle.recorder.proofs.Laws.{part-back}
-
-never : {A : Type 0} → true ≡ false → A
-never e = absurd (let z : _≡_ {A = ℕ} 0 1 = cc in omega arith)
+use Rattle.recorder.proofs.Bools.{never}
 
 -- tests in a row
 pub both-no : (a b f : Bool) → f ≡ a → f ≡ false → false ≡ both a b
@@ -230,3 +229,30 @@ one-yes r c a b e f g h i = rw (eq-eqb (r .call) 3 (sym e ∙ f), eq-eqb (r .a) 
 
 pub unit-start : (e : ℕ) → e < 160 → (1 ≡ 2 ^ (e - e)) × (e ≤ e) × (e ≤ 160)
 unit-start e h = let z : e - e ≡ 0 = omega arith in (rw z, omega arith, omega arith)
+
+-- the names' links go: a name, another entry, none; and all of them
+pub unlink-name : (b : List ℕ) (k c w v : ℕ) → c ≡ kindAt b (4 * k) → c ≡ 50 → w ≡ getD b (4 * k + 3) 0 → v ≡ sigilOf (w % 4) → set b (4 * k + 3) v ≡ unlinkAt b k
+unlink-name b k c w v e f g h = rw (eq-eqb (kindAt b (4 * k)) 50 (sym e ∙ f), h, g)
+
+pub unlink-other : (b : List ℕ) (k c : ℕ) → c ≡ kindAt b (4 * k) → (c ≡ 50 → ⊥) → b ≡ unlinkAt b k
+unlink-other b k c e f = rw (ne-eqb (kindAt b (4 * k)) 50 (λ z. f (e ∙ z)))
+
+pub unlink-none : (b : List ℕ) (k : ℕ) → length b / 4 ≤ k → b ≡ unlinkAt b k
+unlink-none b k h = either-way (eqb (kindAt b (4 * k)) 50) _ b (set-out b (4 * k + 3) _ (omega arith))
+  where
+    either-way : (f : Bool) (x y : List ℕ) → x ≡ y → y ≡ pick f x y
+    either-way true x y e = sym e
+    either-way false x y e = refl
+
+pub unlink-step : (b b′ L : List ℕ) (k end : ℕ) → k < end → unlinkFrom b k (end - k) ≡ L → b′ ≡ unlinkAt b k → unlinkFrom b′ (k + 1) (end - (k + 1)) ≡ L
+unfolding unlinkFrom
+unlink-step b b′ L k end h e f =
+    let q : end - k ≡ suc (end - (k + 1)) = omega arith in
+    rw f (rw q at e)
+
+pub unlink-end : (b₀ b : List ℕ) (st : St) (k end : ℕ) → end ≡ known b₀ st → end ≤ k → unlinkFrom b k (end - k) ≡ unlinkFrom b₀ 0 (end - 0) → b ≡ unlinked b₀ st
+unfolding unlinkFrom unlinked
+unlink-end b₀ b st k end r h e =
+    let q : end - k ≡ 0 = omega arith in
+    let o : end - 0 ≡ known b₀ st = omega arith in
+    (rw q at e) ∙ ap (λ (z : ℕ). unlinkFrom b₀ 0 z) o

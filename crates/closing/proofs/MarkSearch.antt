@@ -14,13 +14,11 @@ use Rattle.recorder.specs.Word.{pick, both}
 use Rattle.recorder.specs.Ideal.{Search, missing, found}
 use Rattle.recorder.specs.Layout.{wordsOf, fill}
 use Rattle.recorder.specs.Marks.{Mark, mark, orElse, addrOf, datumOf, dataOf}
+use Rattle.recorder.proofs.Bools.{never, both-parts}
 use Rattle.closing.specs.MarkWords.{markWords, markList, markCount, marked, labelOf, middle, seek, datumAt, lastOf, firstDatumOf, sortedTarget, sortedStart, findLabel, findDatum, below, rise}
 
 noMark : Mark
 noMark = mark 0 0 0
-
-never : {A : Type 0} → true ≡ false → A
-never e = absurd (let z : _≡_ {A = ℕ} 0 1 = cc in omega arith)
 
 length-marks : (ms : List Mark) → length (wordsOf markWords ms) ≡ 3 * length ms
 length-marks [] = refl
@@ -121,16 +119,12 @@ data-from w l ps (m ∷ es) zs k e p =
     (or-datum (dataOf es l) (eqb (m .label) l) (m .first))
 
 -- labels that rise
-both-true : (a b : Bool) → both a b ≡ true → (a ≡ true) × (b ≡ true)
-both-true true b e = (refl, e)
-both-true false b e = never (sym e)
-
 rise-head : (ms : List Mark) (x j : ℕ) → below x ms ≡ true → rise ms ≡ true → j < length ms → x < getD ms j noMark .label
 unfolding rise
 rise-head [] x j e r h = absurd (omega arith)
 rise-head (m ∷ ms) x zero e r h = ltb-true x (m .label) e
 rise-head (m ∷ ms) x (suc j) e r h =
-    let b = both-true (below (m .label) ms) (rise ms) r in
+    let b = both-parts (below (m .label) ms) (rise ms) r in
     let y = rise-head ms (m .label) j (b .0) (b .1) (omega arith) in
     let z = ltb-true x (m .label) e in
     omega arith
@@ -139,8 +133,8 @@ rise-lt : (ms : List Mark) (i j : ℕ) → rise ms ≡ true → i < j → j < le
 unfolding rise
 rise-lt [] i j r h k = absurd (omega arith)
 rise-lt (m ∷ ms) i zero r h k = absurd (omega arith)
-rise-lt (m ∷ ms) zero (suc j) r h k = let b = both-true (below (m .label) ms) (rise ms) r in rise-head ms (m .label) j (b .0) (b .1) (omega arith)
-rise-lt (m ∷ ms) (suc i) (suc j) r h k = rise-lt ms i j (both-true (below (m .label) ms) (rise ms) r .1) (omega arith) (omega arith)
+rise-lt (m ∷ ms) zero (suc j) r h k = let b = both-parts (below (m .label) ms) (rise ms) r in rise-head ms (m .label) j (b .0) (b .1) (omega arith)
+rise-lt (m ∷ ms) (suc i) (suc j) r h k = rise-lt ms i j (both-parts (below (m .label) ms) (rise ms) r .1) (omega arith) (omega arith)
 
 -- where a label stands, or that it stands nowhere
 addr-none : (ms : List Mark) (l : ℕ) → ((i : ℕ) → i < length ms → getD ms i noMark .label ≡ l → ⊥) → addrOf ms l ≡ missing

@@ -1,1 +1,2 @@
 pub mod MarkWords
+pub mod Marked

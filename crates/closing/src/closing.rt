@@ -1,5 +1,6 @@
 // Closing up what is the recorder's: the WHILEs, the delays, End.
 use recorder::codegen::St;
+use recorder::codegen::least;
 use recorder::codegen::list_room;
 use recorder::codegen::put;
 use recorder::codegen::put_note;
@@ -15,7 +16,7 @@ ghost use Prim.Native.Nat.{_+_, _*_, _≤_, _<_, min};
 ghost use lib.ListN.{getD};
 ghost use Rattle.recorder.specs.Word.{wordOf};
 ghost use Rattle.recorder.specs.Closing.{isWend, isZero, isOne, isStart, isEnd, isFor, isNextOf, roundUp};
-ghost use Rattle.recorder.specs.Mem.{listRoom, noteList, noteSt, recOf, setB, atRec, whileList, whileTop, whilesFrom, topFrom, passed, openFrom, patchWhiles, setHead, rewrite, unitOf, wholeAt, delayAt, steppedAt, delayedAt, steppedDelayedAt, delayList, convertDelays, cleanUpAll};
+ghost use Rattle.recorder.specs.Mem.{listRoom, noteList, noteSt, recOf, setB, atRec, whileList, whileTop, whilesFrom, topFrom, passed, openFrom, patchWhiles, setHead, rewrite, unitOf, wholeAt, delayAt, steppedAt, delayedAt, steppedDelayedAt, delayList, convertDelays, cleanUpAll, sigilOf, unlinkAt, unlinked};
 
 // A number: m × 2^(e−160), zero at e 0.
 pub struct Number {
@@ -374,4 +375,40 @@ pub fn clean_up(list: &mut [u32], notes: &mut [u32], st: St) -> St
     let s = patch_while_instr(list, notes, st);
     convert_for_loop_to_sleep(list, s);
     put(list, s, 2, Range { start: 0, end: 0 }, 17, 0, 0)
+}
+
+fn sigil_of(c: u32) -> u32
+    ensures { λ r. ⌜ r ≡ sigilOf c ⌝ }
+{
+    if c == 1 {
+        return 36;
+    }
+    if c == 2 {
+        return 37;
+    }
+    0
+}
+
+// An entry's last word: where it is a name's, its sigil alone.
+fn unlink_at(book: &mut [u32], k: usize)
+    ensures { λ r. ⌜ now (book .exit) ≡ unlinkAt (now (book .entry)) k ⌝ }
+{
+    if k < book.len() / 4 {
+        let i = 4 * k;
+        if kind_at(book, i) == 50 {
+            book[i + 3] = sigil_of(word_at(book, i + 3) % 4);
+        }
+    }
+}
+
+// The book as document 01 has it: the names are in no tree any more.
+pub fn unlink_names(book: &mut [u32], st: St)
+    ensures { λ r. ⌜ now (book .exit) ≡ unlinked (now (book .entry)) st ⌝ }
+{
+    let end = least(st.entries, book.len() / 4);
+    let mut k: usize = 0;
+    while k < end {
+        unlink_at(book, k);
+        k += 1;
+    }
 }

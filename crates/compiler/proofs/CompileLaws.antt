@@ -15,13 +15,14 @@ use Rattle.sheet.specs.declared.form.Checked.the-variants.{Accepted, TooLong, S
 use Rattle.sheet.specs.declared.form.Offence.the-variants.{BadWord, TooDeep, BadLength, BadRange, Fseek}
 use Rattle.sheet.specs.Check.{checked, refusalNumber, refusalPlace}
 use Rattle.sheet.specs.Tree.{programAt}
-use Rattle.sheet.proofs.LinesFit.{lines-fit}
+use Rattle.walk.proofs.LinesFit.{lines-fit}
+use Rattle.closing.specs.Marked.{MarksIn}
+use Rattle.program.specs.Line.{Programmed}
 use Rattle.rules.specs.Program.{Lines, firstLine, compileLines, closeUp}
 use Rattle.rules.specs.Outcome.{Outcome, Lengths, lengths, refused, mostRecords, finished, sized, outcomeBy, outcome}
 use Rattle.rules.specs.Held.{heldLines, heldAccepted, heldOutcome}
 use Rattle.rules.proofs.SimOutcome.{held-outcome}
 use Rattle.compiler.specs.declared.Answer.{Answer}
-use Rattle.compiler.specs.Marked.{MarksIn, Programmed}
 use Rattle.compiler.specs.Answered.{outcomeOf, sizedHeld}
 
 -- refusals 1 to 8
@@ -125,17 +126,17 @@ whole-no-room s t l n b w i j k h m₁ w₁ c rising r o hl hn hb hw x f hr g e 
     no-room L (heldLines s t L .state) (closeUp (memR t) (heldLines s t L)) o (rw (x .state) at f) (rw (x .state) at y)
     (e ∙ ap (λ (z : Lengths). refused 9 0 z) (same-lengths l n b w i j k h hl hn hb hw)) ∙ held-outcome s t L
 
-pub whole-sized : (s t l n b w l1 n1 b1 w1 l2 n2 : List ℕ) (i k h i2 j2 : ℕ) (m₁ : Mem) (c : ℕ) (rising : Bool) (r : ℕ) (st st2 : St) (o : Outcome)
-    → i ≡ length l → k ≡ length b → h ≡ length w → i2 ≡ length l → j2 ≡ length n
+pub whole-sized : (s t l n b w l1 n1 b1 w1 l2 n2 b2 : List ℕ) (i h i2 j2 k2 : ℕ) (m₁ : Mem) (c : ℕ) (rising : Bool) (r : ℕ) (st st2 : St) (o : Outcome)
+    → i ≡ length l → h ≡ length w → i2 ≡ length l → j2 ≡ length n → k2 ≡ length b
     → m₁ ≡ mem l1 n1 b1 st → Held s t (lengths (length l) (length n) (length b) (length w)) m₁ w1 c rising → m₁ .st .lfull ≡ false → r ≡ mostRecords i → m₁ .st .records < r
-    → ((t b : List ℕ) (c′ : Lines Mem) → c′ .state ≡ mem l1 n1 b st → MarksIn w1 c rising (c′ .marks) → mem l2 n2 b st2 ≡ closeUp (memR t) c′)
-    → o ≡ sizedHeld (lengths i2 j2 k h) (mem l2 n2 b1 st2) → o ≡ sized (finished s t) (lengths (length l) (length n) (length b) (length w))
-whole-sized s t l n b w l1 n1 b1 w1 l2 n2 i k h i2 j2 m₁ c rising r st st2 o hl hb hw hl2 hn2 hm x f hr g close e =
+    → ((t : List ℕ) (c′ : Lines Mem) → c′ .state ≡ mem l1 n1 b1 st → MarksIn w1 c rising (c′ .marks) → mem l2 n2 b2 st2 ≡ closeUp (memR t) c′)
+    → o ≡ sizedHeld (lengths i2 j2 k2 h) (mem l2 n2 b2 st2) → o ≡ sized (finished s t) (lengths (length l) (length n) (length b) (length w))
+whole-sized s t l n b w l1 n1 b1 w1 l2 n2 b2 i h i2 j2 k2 m₁ c rising r st st2 o hl hw hl2 hn2 hb2 hm x f hr g close e =
     let L = lengths (length l) (length n) (length b) (length w) in
     let y : m₁ .st .records < mostRecords (length l) = rw (hr, hl) at g in
-    let z : mem l2 n2 b1 st2 ≡ closeUp (memR t) (heldLines s t L) = close t b1 (heldLines s t L) (sym (x .state) ∙ hm) (x .marks) in
+    let z : mem l2 n2 b2 st2 ≡ closeUp (memR t) (heldLines s t L) = close t (heldLines s t L) (sym (x .state) ∙ hm) (x .marks) in
     room L (heldLines s t L .state) (closeUp (memR t) (heldLines s t L)) o (rw (x .state) at f) (rw (x .state) at y)
-    (e ∙ ap (λ (u : Lengths). sizedHeld u (mem l2 n2 b1 st2)) (same-lengths l n b w i2 j2 k h hl2 hn2 hb hw) ∙ ap (λ (u : Mem). sizedHeld L u) z) ∙ held-outcome s t L
+    (e ∙ ap (λ (u : Lengths). sizedHeld u (mem l2 n2 b2 st2)) (same-lengths l n b w i2 j2 k2 h hl2 hn2 hb2 hw) ∙ ap (λ (u : Mem). sizedHeld L u) z) ∙ held-outcome s t L
 
 -- compile's own way on: what was cleared has its length still
 pub same-sized : (s t l n b w : List ℕ) (i j k h : ℕ) (o : Outcome) → i ≡ length l → j ≡ length n → k ≡ length b → h ≡ length w

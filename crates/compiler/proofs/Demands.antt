@@ -13,7 +13,7 @@ use Rattle.sheet.specs.declared.form.Checked.the-variants.{Accepted, TooLong, S
 use Rattle.sheet.specs.declared.form.Offence.the-variants.{BadWord, TooDeep, BadLength, BadRange, Fseek}
 use Rattle.sheet.specs.Check.{checked, refusalNumber, refusalPlace}
 use Rattle.sheet.specs.Tree.{programAt}
-use Rattle.sheet.proofs.Within.{place-within}
+use Rattle.walk.proofs.Within.{place-within}
 use Rattle.rules.specs.Outcome.{Outcome, Lengths, refused, accepted, mostRecords, finished, sized, outcomeBy, outcome}
 use Rattle.rules.specs.Missing.{Whole}
 use Rattle.rules.specs.Demand.{NoError, ExactlyOne, statementEdges}

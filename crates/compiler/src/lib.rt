@@ -8,9 +8,6 @@ ghost use Rattle.recorder.specs.Mem.{mem};
 ghost use Rattle.rules.specs.Outcome.{lengths, refused, finished, sized, outcome};
 ghost use Rattle.compiler.specs.Answered.{outcomeOf, sizedHeld};
 
-pub mod line;
-pub mod resolve;
-
 // The refusal, 0 for none, its place in the sheet, and the numbers of records, notes and book entries.
 pub struct Answer {
     pub refusal: u32,
@@ -81,7 +78,7 @@ fn compile_accepted(
 ) -> Answer
     ensures { λ x. ⌜ (now (list .entry) ≡ replicate (length (now (list .entry))) 0 → now (notes .entry) ≡ replicate (length (now (notes .entry))) 0 → now (book .entry) ≡ replicate (length (now (book .entry))) 0 → now (work .entry) ≡ replicate (length (now (work .entry))) 0 → 3 * payloadAt (now (sheet .entry)) 0 ≤ length (now (work .entry)) → outcomeOf x (now (list .exit)) (now (notes .exit)) (now (book .exit)) (now (work .exit)) ≡ sized (finished (now (sheet .entry)) (now (text .entry))) (lengths (length (now (list .entry))) (length (now (notes .entry))) (length (now (book .entry))) (length (now (work .entry))))) ⌝ }
 {
-    let p = crate::line::compile_prog(
+    let p = program::line::compile_prog(
         sheet,
         text,
         list,
@@ -97,7 +94,7 @@ fn compile_accepted(
     if recorder::codegen::list_room(list.len()) <= ps.records {
         return refuse(list, notes, book, work, 9, 0);
     }
-    let s = crate::resolve::close_up(list, notes, work, ps, p.marks, p.rising);
+    let s = resolution::resolve::close_up(list, notes, book, work, ps, p.marks, p.rising);
     sized_up(list, notes, book, work, s)
 }
 
@@ -113,7 +110,7 @@ pub fn compile(
 ) -> Answer
     ensures { λ x. ⌜ outcomeOf x (now (list .exit)) (now (notes .exit)) (now (book .exit)) (now (work .exit)) ≡ outcome (now (sheet .entry)) (now (text .entry)) (lengths (length (now (list .entry))) (length (now (notes .entry))) (length (now (book .entry))) (length (now (work .entry)))) ⌝ }
 {
-    let c = sheet::check(sheet, text, work.len());
+    let c = walk::check(sheet, text, work.len());
     let refusal = sheet::form::refusal_number(c);
     if refusal != 0 {
         return refuse(

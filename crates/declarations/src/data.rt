@@ -16,7 +16,7 @@ fn datum_start(base: u32, r: Range, quoted: u32) -> u32
     ensures { λ x. ⌜ x ≡ datumStart base (datumOf r quoted) ⌝ }
 {
     if quoted == 1 {
-        expressions::node::quoted_start(base, r)
+        nodes::node::quoted_start(base, r)
     } else {
         rules::name::text_place(base, r.start as u32)
     }
@@ -26,7 +26,7 @@ fn datum_length(text: &[u16], base: u32, r: Range, quoted: u32) -> u32
     ensures { λ x. ⌜ x ≡ datumLength (now (text .entry)) base (datumOf r quoted) ⌝ }
 {
     if quoted == 1 {
-        expressions::node::quoted_length(text, base, r)
+        nodes::node::quoted_length(text, base, r)
     } else {
         rules::name::units(r)
     }

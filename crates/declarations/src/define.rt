@@ -1,6 +1,6 @@
 // DEF.
 use expressions::expr::Went;
-use expressions::node::OptRange;
+use nodes::node::OptRange;
 use recorder::codegen::St;
 use recorder::word::Range;
 use rules::types::Type;
@@ -9,7 +9,7 @@ ghost use Prim.Native.Nat.{ℕ};
 ghost use Rattle.recorder.specs.Mem.{mem};
 ghost use Rattle.sheet.specs.declared.form.Shape.the-variants.{Def};
 ghost use Rattle.sheet.specs.Tree.{given};
-ghost use Rattle.expressions.specs.Done.{optOf};
+ghost use Rattle.nodes.specs.Done.{optOf};
 ghost use Rattle.expressions.specs.Body.{Body};
 ghost use Rattle.declarations.specs.Parts.{Defined};
 
@@ -129,11 +129,11 @@ pub fn compile_def(
     ensures { λ x. ⌜ ((k : ℕ) → Body (now (sheet .entry)) (now (text .entry)) base left Def k r at (mem (now (list .entry)) (now (notes .entry)) (now (book .entry)) st) (mem (now (list .exit)) (now (notes .exit)) (now (book .exit)) (x .st)) (x .at)) ⌝ }
 {
     let p = recorder::word::behind(sheet, at);
-    let o = expressions::node::opt_range_at(sheet, at);
-    let a = expressions::node::opt_range_at(sheet, p);
-    let x = expressions::node::func_name(text, notes, book, st, base, o);
+    let o = nodes::node::opt_range_at(sheet, at);
+    let a = nodes::node::opt_range_at(sheet, p);
+    let x = nodes::node::func_name(text, notes, book, st, base, o);
     let xs = x.st;
-    let y = expressions::node::func_name(text, notes, book, xs, base, a);
+    let y = nodes::node::func_name(text, notes, book, xs, base, a);
     let ys = y.st;
     let q = recorder::word::behind(sheet, p);
     def_node(

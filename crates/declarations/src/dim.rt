@@ -1,6 +1,6 @@
 // DIM.
 use expressions::expr::Went;
-use expressions::node::OptRange;
+use nodes::node::OptRange;
 use recorder::codegen::St;
 use rules::tables::Wants;
 ghost use mathlib.Core.Path.{_≡_};
@@ -9,7 +9,7 @@ ghost use Rattle.recorder.specs.declared.word.Range.{Range};
 ghost use Rattle.recorder.specs.Mem.{mem, memR};
 ghost use Rattle.sheet.specs.declared.form.Shape.the-variants.{Dim};
 ghost use Rattle.rules.specs.Stmt.{dimNode};
-ghost use Rattle.expressions.specs.Done.{optOf};
+ghost use Rattle.nodes.specs.Done.{optOf};
 ghost use Rattle.expressions.specs.Body.{Body};
 ghost use Rattle.declarations.specs.Parts.{Dimmed, DimDone};
 
@@ -28,7 +28,7 @@ fn dim_node(
 {
     match o {
         OptRange::Given(nr) => {
-            let y = expressions::node::compile_sym(text, notes, book, st, base, nr);
+            let y = nodes::node::compile_sym(text, notes, book, st, base, nr);
             let ys = y.st;
             recorder::codegen::emit_dim(list, ys, nr, y.number, n)
         }
@@ -56,7 +56,7 @@ fn dim_one(
     let k = recorder::word::payload_at(sheet, at);
     let p = recorder::word::behind(sheet, recorder::word::behind(sheet, at));
     if k == 7 {
-        let o = expressions::node::opt_range_at(sheet, p);
+        let o = nodes::node::opt_range_at(sheet, p);
         let c = expressions::expr::count_at(sheet, recorder::word::behind(sheet, p));
         let x = expressions::expr::compile_args(
             sheet,
@@ -75,7 +75,7 @@ fn dim_one(
         let s = dim_node(text, list, notes, book, xs, base, o, c.count);
         Went { st: s, at: x.at }
     } else {
-        let q = sheet::expr::skip_expr(sheet, at, left);
+        let q = walk::stmt::skip_expr(sheet, at, left);
         Went { st, at: q }
     }
 }

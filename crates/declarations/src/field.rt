@@ -75,7 +75,7 @@ pub fn compile_field(
 ) -> Went
     ensures { λ x. ⌜ ((k : ℕ) → Body (now (sheet .entry)) (now (text .entry)) base left Field k r at (mem (now (list .entry)) (now (notes .entry)) (now (book .entry)) st) (mem (now (list .exit)) (now (notes .exit)) (now (book .exit)) (x .st)) (x .at)) ⌝ }
 {
-    let p = sheet::expr::skip_expr(sheet, at, left);
+    let p = walk::stmt::skip_expr(sheet, at, left);
     let c = expressions::expr::count_at(sheet, p);
     let x = field_each(
         sheet,

@@ -22,8 +22,9 @@ use Rattle.rules.specs.declared.tables.Wants.the-variants.{Func, Every, Draw}
 use Rattle.rules.specs.Tables.{wantedBy}
 use Rattle.rules.specs.Expr.{Out, out, compileExpr, compileArgs, checkType, varNode, textNode, numberNode, funcNotes, funcNode, funcName, userCall, binaryNode, unaryNode, indexNode, indexPlace, varPlace, compileLvalue, compileTyped}
 use Rattle.rules.specs.Stmt.{placeTyped}
-use Rattle.expressions.specs.declared.node.OptRange.{OptRange}
-use Rattle.expressions.specs.Done.{named, optOf, Compiled, CompiledArgs, CompiledTyped, CompiledPlace, PlaceTyped, OpAt, CountAt}
+use Rattle.nodes.specs.declared.node.OptRange.{OptRange}
+use Rattle.nodes.specs.Done.{named, optOf, Compiled, CompiledArgs, CompiledTyped, CompiledPlace, PlaceTyped, OpAt, CountAt}
+use Rattle.expressions.proofs.Lists.{exprs-step, repeat-step}
 
 -- a node's case, its range, and the place behind both
 pub record Head (s : List ℕ) (left at k : ℕ) (r : Range) (p : ℕ) : Type 0 where
@@ -35,12 +36,12 @@ pub record Head (s : List ℕ) (left at k : ℕ) (r : Range) (p : ℕ) : Type 0 
 pub head : (s : List ℕ) (left at k : ℕ) (r : Range) (q p : ℕ) → (left ≡ 0 → ⊥) → k ≡ payloadAt s at → r ≡ rangeAt s (next s at) → q ≡ next s at → p ≡ next s q → Head s left at k r p
 head s left at k r q p d hk hr hq hp = record { deep = d; kind = hk; range = hr; behind = rw (← hq) hp }
 
-node : (s : List ℕ) (left at k : ℕ) (r : Range) (p : ℕ) → Head s left at k r p → exprAt s left at ≡ exprNode s (exprAt s (left - 1)) (skipNode s (left - 1) exprSort) k r p
+pub node : (s : List ℕ) (left at k : ℕ) (r : Range) (p : ℕ) → Head s left at k r p → exprAt s left at ≡ exprNode s (exprAt s (left - 1)) (skipNode s (left - 1) exprSort) k r p
 unfolding exprAt
 node s zero at k r p h = absurd (h .deep refl)
 node s (suc left) at k r p h = rw (sub-one, h .kind, h .range, h .behind)
 
-over : (s : List ℕ) (left at k : ℕ) (r : Range) (p : ℕ) → Head s left at k r p → skipNode s left exprSort at ≡ skipFields s (skipNode s (left - 1)) (exprFields k) p
+pub over : (s : List ℕ) (left at k : ℕ) (r : Range) (p : ℕ) → Head s left at k r p → skipNode s left exprSort at ≡ skipFields s (skipNode s (left - 1)) (exprFields k) p
 unfolding skipNode
 over s zero at k r p h = absurd (h .deep refl)
 over s (suc left) at k r p h = rw (sub-one, h .kind, h .behind)
@@ -177,19 +178,9 @@ at-other s t base left at k r p m h n0 n1 n2 n3 n4 n5 n6 n7 n8 =
     record { place = rw (over s left at k r p h, o .1); result = rw (node s left at k r p h, o .0) }
 
 -- one turn of the loop over arguments: n are left, the i-th is next
-tree-step : (s : List ℕ) (f : ℕ → Expr) (g : ℕ → ℕ) (n at : ℕ) → 0 < n → exprsAt s f g n at ≡ more (f at) (exprsAt s f g (n - 1) (g at))
-unfolding exprsAt
-tree-step s f g zero at h = absurd (omega arith)
-tree-step s f g (suc n) at h = rw sub-one
-
-place-step : (s : List ℕ) (g : ℕ → ℕ) (n at : ℕ) → 0 < n → skipRepeat s g n at ≡ skipRepeat s g (n - 1) (g at)
-unfolding skipRepeat
-place-step s g zero at h = absurd (omega arith)
-place-step s g (suc n) at h = rw sub-one
-
 pub step-place : (s t : List ℕ) (base left n at p : ℕ) (m m1 : Mem) (ty : Ty) → 0 < n → Compiled s t base left at m m1 p ty
     → skipRepeat s (skipNode s left exprSort) (n - 1) p ≡ skipRepeat s (skipNode s left exprSort) n at
-step-place s t base left n at p m m1 ty h x = rw (place-step s (skipNode s left exprSort) n at h, x .place)
+step-place s t base left n at p m m1 ty h x = rw (repeat-step s (skipNode s left exprSort) n at h, x .place)
 
 args-more : (t : List ℕ) (base : ℕ) (want : ℕ → Ty) (i : ℕ) (e : Expr) (es : Exprs) (m : Mem) → compileArgs (memR t) t base want i (more e es) m
     ≡ compileArgs (memR t) t base want (suc i) es (checkType (memR t) t base (want i) (exprRange e) (compileExpr (memR t) t base e m .ty) (compileExpr (memR t) t base e m .state))
@@ -201,7 +192,7 @@ pub step-args : (s t : List ℕ) (base left n at p i : ℕ) (r : Range) (w : Wan
     → compileArgs (memR t) t base (wantedBy w) (i + 1) (exprsAt s (exprAt s left) (skipNode s left exprSort) (n - 1) p) m2
     ≡ compileArgs (memR t) t base (wantedBy w) i (exprsAt s (exprAt s left) (skipNode s left exprSort) n at) m
 step-args s t base left n at p i r w v m m1 m2 ty h x hv hr e =
-    rw (tree-step s (exprAt s left) (skipNode s left exprSort) n at h, args-more, add-one, ← x .place, ← x .result, range-of s left at, ← hr, e, hv)
+    rw (exprs-step s (exprAt s left) (skipNode s left exprSort) n at h, args-more, add-one, ← x .place, ← x .result, range-of s left at, ← hr, e, hv)
 
 pub none-left : (s t : List ℕ) (base left n k at at₀ i : ℕ) (w : Wants) (m m₀ : Mem) → n ≤ 0 → skipRepeat s (skipNode s left exprSort) n at ≡ skipRepeat s (skipNode s left exprSort) k at₀
     → compileArgs (memR t) t base (wantedBy w) i (exprsAt s (exprAt s left) (skipNode s left exprSort) n at) m

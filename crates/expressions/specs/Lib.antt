@@ -1,2 +1,3 @@
-pub mod Done
 pub mod Body
+pub mod Lists
+pub mod Surplus

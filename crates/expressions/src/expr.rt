@@ -7,7 +7,7 @@ ghost use mathlib.Core.Path.{_≡_};
 ghost use Rattle.recorder.specs.Mem.{mem, memR};
 ghost use Rattle.recorder.specs.Word.{payloadAt, rangeAt, next};
 ghost use Rattle.sheet.specs.Tree.{mantissaAt};
-ghost use Rattle.expressions.specs.Done.{Compiled, CompiledArgs, CompiledTyped, CompiledPlace, PlaceTyped, OpAt, CountAt};
+ghost use Rattle.nodes.specs.Done.{Compiled, CompiledArgs, CompiledTyped, CompiledPlace, PlaceTyped, OpAt, CountAt};
 
 // What an expression leaves: the state, the place behind it, its kind.
 pub struct Done {
@@ -97,13 +97,13 @@ pub fn compile_expr(
     let p = recorder::word::behind(sheet, recorder::word::behind(sheet, at));
     match k {
         0 => {
-            let x = crate::node::var_node(text, list, notes, book, st, base, r);
+            let x = nodes::node::var_node(text, list, notes, book, st, base, r);
             let xs = x.st;
             let ty = x.ty;
             Done { st: xs, at: p, ty }
         }
         1 => {
-            let s = crate::node::text_node(text, list, notes, st, base, r);
+            let s = nodes::node::text_node(text, list, notes, st, base, r);
             Done {
                 st: s,
                 at: p,
@@ -114,7 +114,7 @@ pub fn compile_expr(
             let e = count_at(sheet, p);
             let m = mantissa_at(sheet, e.at);
             let q = recorder::word::behind(sheet, recorder::word::behind(sheet, e.at));
-            let s = crate::node::number_node(list, notes, st, r, e.count, m);
+            let s = nodes::node::number_node(list, notes, st, r, e.count, m);
             Done {
                 st: s,
                 at: q,
@@ -125,7 +125,7 @@ pub fn compile_expr(
             let f = op_at(sheet, p);
             let fr = f.range;
             let c = count_at(sheet, f.at);
-            let s = crate::node::func_notes(notes, st, f.kind, c.count, fr, r);
+            let s = nodes::node::func_notes(notes, st, f.kind, c.count, fr, r);
             let x = compile_args(
                 sheet,
                 text,
@@ -140,7 +140,7 @@ pub fn compile_expr(
                 left - 1,
             );
             let xs = x.st;
-            let y = crate::node::func_node(list, xs, f.kind, c.count, r);
+            let y = nodes::node::func_node(list, xs, f.kind, c.count, r);
             let ys = y.st;
             let ty = y.ty;
             Done {
@@ -150,15 +150,15 @@ pub fn compile_expr(
             }
         }
         4 => {
-            let o = crate::node::opt_range_at(sheet, p);
+            let o = nodes::node::opt_range_at(sheet, p);
             let q = recorder::word::behind(sheet, p);
-            let y = crate::node::func_name(text, notes, book, st, base, o);
+            let y = nodes::node::func_name(text, notes, book, st, base, o);
             let ys = y.st;
             let x = compile_expr(sheet, text, list, notes, book, ys, base, q, left - 1);
             let xs = x.st;
             let xt = x.ty;
-            let cs = crate::node::check_type(notes, xs, Type::Real, expr_range(sheet, q), xt);
-            let us = crate::node::user_call(list, cs, o, r, y.number);
+            let cs = nodes::node::check_type(notes, xs, Type::Real, expr_range(sheet, q), xt);
+            let us = nodes::node::user_call(list, cs, o, r, y.number);
             Done {
                 st: us,
                 at: x.at,
@@ -176,7 +176,7 @@ pub fn compile_expr(
             let yt = y.ty;
             let ar = expr_range(sheet, p);
             let br = expr_range(sheet, o.at);
-            let z = crate::node::binary_node(list, notes, ys, o.kind, r, ar, or, br, xt, yt);
+            let z = nodes::node::binary_node(list, notes, ys, o.kind, r, ar, or, br, xt, yt);
             let zs = z.st;
             let ty = z.ty;
             Done {
@@ -191,7 +191,7 @@ pub fn compile_expr(
             let xs = x.st;
             let xt = x.ty;
             let ar = expr_range(sheet, o.at);
-            let z = crate::node::unary_node(list, notes, xs, o.kind, r, ar, xt);
+            let z = nodes::node::unary_node(list, notes, xs, o.kind, r, ar, xt);
             let zs = z.st;
             let ty = z.ty;
             Done {
@@ -201,7 +201,7 @@ pub fn compile_expr(
             }
         }
         7 => {
-            let o = crate::node::opt_range_at(sheet, p);
+            let o = nodes::node::opt_range_at(sheet, p);
             let c = count_at(sheet, recorder::word::behind(sheet, p));
             let x = compile_args(
                 sheet,
@@ -217,7 +217,7 @@ pub fn compile_expr(
                 left - 1,
             );
             let xs = x.st;
-            let z = crate::node::index_node(text, list, notes, book, xs, base, o, r, c.count);
+            let z = nodes::node::index_node(text, list, notes, book, xs, base, o, r, c.count);
             let zs = z.st;
             let ty = z.ty;
             Done {
@@ -267,7 +267,7 @@ pub fn compile_args(
         let xs = x.st;
         let xt = x.ty;
         let w = rules::tables::want(wants, i);
-        s = crate::node::check_type(notes, xs, w, expr_range(sheet, p), xt);
+        s = nodes::node::check_type(notes, xs, w, expr_range(sheet, p), xt);
         p = x.at;
         i += 1;
         more -= 1;
@@ -294,7 +294,7 @@ pub fn compile_typed(
     let xs = x.st;
     let xt = x.ty;
     let r = expr_range(sheet, at);
-    let s = crate::node::check_type(notes, xs, want, r, xt);
+    let s = nodes::node::check_type(notes, xs, want, r, xt);
     Went { st: s, at: x.at }
 }
 
@@ -324,13 +324,13 @@ pub fn compile_lvalue(
     let p = recorder::word::behind(sheet, recorder::word::behind(sheet, at));
     match k {
         0 => {
-            let x = crate::node::var_place(text, list, notes, book, st, base, r);
+            let x = nodes::node::var_place(text, list, notes, book, st, base, r);
             let xs = x.st;
             let ty = x.ty;
             Done { st: xs, at: p, ty }
         }
         7 => {
-            let o = crate::node::opt_range_at(sheet, p);
+            let o = nodes::node::opt_range_at(sheet, p);
             let c = count_at(sheet, recorder::word::behind(sheet, p));
             let x = compile_args(
                 sheet,
@@ -346,7 +346,7 @@ pub fn compile_lvalue(
                 left - 1,
             );
             let xs = x.st;
-            let z = crate::node::index_place(text, list, notes, book, xs, base, o, c.count);
+            let z = nodes::node::index_place(text, list, notes, book, xs, base, o, c.count);
             let zs = z.st;
             let ty = z.ty;
             Done {
@@ -357,7 +357,7 @@ pub fn compile_lvalue(
         }
         _ => Done {
             st,
-            at: sheet::expr::skip_expr(sheet, at, left),
+            at: walk::stmt::skip_expr(sheet, at, left),
             ty: Type::Error,
         },
     }
@@ -382,6 +382,6 @@ pub fn place_typed(
     let xs = x.st;
     let xt = x.ty;
     let r = expr_range(sheet, at);
-    let s = crate::node::check_type(notes, xs, want, r, xt);
+    let s = nodes::node::check_type(notes, xs, want, r, xt);
     Went { st: s, at: x.at }
 }

@@ -1,3 +1,3 @@
-// Expressions compiled: the second half of compiler.rs.
+// Expressions compiled: compile_expr and compile_lvalue of compiler.rs.
 pub mod expr;
-pub mod node;
+pub mod surplus;

@@ -1,4 +1,2 @@
 pub mod OpLaws
-pub mod PlaceLaws
-pub mod JumpLaws
 pub mod DrawLaws

@@ -1,26 +1,20 @@
 -- One law for each way out of a statement that makes one record behind its operands.
-use mathlib.Core.Path.{_≡_, refl, _∙_}
-use mathlib.Core.List.{List, []}
-use Prim.Native.Nat.{ℕ, zero, suc}
+use mathlib.Core.Path.{_≡_, refl}
+use mathlib.Core.List.{List}
+use Prim.Native.Nat.{ℕ}
 use Rattle.recorder.specs.declared.word.Range.{Range}
 use Rattle.recorder.specs.Word.{next}
-use Rattle.recorder.specs.Mem.{Mem, mem, memR}
-use Rattle.sheet.specs.declared.form.Sort.the-variants.{Expr as exprSort, Place as placeSort}
+use Rattle.recorder.specs.Mem.{Mem, memR}
 use Rattle.sheet.specs.declared.form.Shape.the-variants.{Rem, NoOp, Op0, Run, Op1, Op2, Op3, Set, System, While}
-use Rattle.sheet.specs.Skip.{skipNode, skipFields, skipField, skipTimes, skipPair, skipItem}
-use Rattle.sheet.specs.Tree.{Stmt, exprAt, stmtNode}
+use Rattle.sheet.specs.Skip.{skipFields, skipField, skipTimes, skipPair, skipItem}
+use Rattle.sheet.specs.Tree.{stmtNode}
 use Rattle.rules.specs.declared.types.«Type».{«Type» as Ty}
 use Rattle.rules.specs.declared.types.«Type».the-variants.{Real, String}
 use Rattle.rules.specs.Tables.{operand}
 use Rattle.rules.specs.Stmt.{compileStmt, compileWhile}
-use Rattle.expressions.specs.Done.{CompiledTyped, PlaceTyped}
+use Rattle.nodes.specs.Done.{CompiledTyped, PlaceTyped}
 use Rattle.expressions.specs.Body.{Body}
-
--- a place to store is read as any expression is
-pub same-skip : (s : List ℕ) (left at : ℕ) → skipNode s left placeSort at ≡ skipNode s left exprSort at
-unfolding skipNode
-same-skip s zero at = refl
-same-skip s (suc left) at = refl
+use Rattle.expressions.proofs.Lists.{place-same}
 
 pub rem-of : (s t : List ℕ) (base left k : ℕ) (r : Range) (p q : ℕ) (m m1 : Mem) → m1 ≡ memR t .emit m 1 r 0 0 0 → q ≡ next s p → Body s t base left Rem k r p m m1 q
 unfolding stmtNode compileStmt skipFields skipField skipTimes skipPair skipItem
@@ -69,4 +63,4 @@ pub set-of : (s t : List ℕ) (base left k : ℕ) (r : Range) (p q q1 : ℕ) (m 
     → m3 ≡ memR t .emit m2 2 r k 2 0 → Body s t base left Set k r p m m3 q1
 unfolding stmtNode compileStmt skipFields skipField skipTimes skipPair skipItem
 set-of s t base left k r p q q1 m m1 m2 m3 x y e =
-    record { place = rw (same-skip s left p, ← x .place) (y .place); result = λ child. rw (same-skip s left p, e, y .result, x .result, x .place) }
+    record { place = rw (place-same s left p, ← x .place) (y .place); result = λ child. rw (place-same s left p, e, y .result, x .result, x .place) }

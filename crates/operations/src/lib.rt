@@ -1,5 +1,3 @@
-// Statements compiled: operations, places, jumps and drawing, of compile_stmt of compiler.rs.
+// Statements compiled: operations and drawing, of compile_stmt of compiler.rs.
 pub mod draw;
-pub mod jump;
 pub mod op;
-pub mod place;

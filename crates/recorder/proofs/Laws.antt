@@ -2,8 +2,8 @@
 use mathlib.Core.Path.{_≡_, refl, sym, ap, _∙_}
 use mathlib.Core.List.{List, [], _++_, append-nil}
 use mathlib.Core.Bool.{Bool, true, false}
-use Prim.Native.Nat.{ℕ, zero, suc, _+_, _*_, _-_, _≤_, _<_, _/_, _%_}
-use lib.Dec.{ltb}
+use Prim.Native.Nat.{ℕ, zero, suc, _+_, _*_, _-_, _≤_, _<_, _/_, _%_, min}
+use lib.Dec.{ltb, eqb}
 use lib.ListN.{length, getD, set, take, drop, replicate, length-set, length-drop, drop-of-length-le}
 use lib.Seq.{take-all, drop-length}
 use borrow.Author.Tests.{lt-ltb, le-ltb, eq-eqb, ne-eqb, ltb-true}
@@ -12,11 +12,13 @@ use borrow.Rule.Slice.PartMut.{midOf, putMid}
 use native.Mathlib.Numerals.{sub-one}
 use native.Mathlib.Omega.{arith}
 use Rattle.recorder.specs.declared.codegen.St.{St}
+use Rattle.recorder.specs.declared.codegen.Way.{Way}
 use Rattle.recorder.specs.declared.word.Range.{Range}
-use Rattle.recorder.specs.Word.{pick, kind, payloadAt, wordOf, rangeWord, next}
+use Rattle.recorder.specs.Word.{pick, both, kind, payloadAt, wordOf, rangeWord, next}
 use Rattle.recorder.specs.Name.{upper, sameUnits, sameName}
 use Rattle.recorder.specs.Ideal.{firstOf}
-use Rattle.recorder.specs.Mem.{listRoom, putList, putRec, putSt, withRecords, four, more, low, known, isName, lookup, symbolNumber, symbolList, symbolSt, entryList, entrySt, noteList, noteSt, withNames, withNotes, withEntries, part, atRec, onRec}
+use Rattle.recorder.specs.Mem.{listRoom, putList, putRec, putSt, withRecords, four, more, low, known, sigilCode, withLink, isName, namedAt, lookup, mix, turnsOf, onward, wayFrom, wayTo, seek, mayLink, linkedAt, linked, rootOf, symbolNumber, symbolList, symbolSt, entryList, entrySt, noteList, noteSt, withNames, withNotes, withEntries, part, atRec, onRec}
+use Rattle.recorder.proofs.Bools.{both-false}
 
 -- the units' loop: one turn, a difference, the end
 pub units-step : (t : List ℕ) (p q n p′ q′ x y u v : ℕ) (z : Bool) → 0 < n → sameUnits t p q n ≡ z → x ≡ getD t p 0 → y ≡ getD t q 0 → u ≡ upper x → v ≡ upper y
@@ -38,44 +40,190 @@ unfolding sameUnits
 units-end t p q zero z h e = e
 units-end t p q (suc n) z h e = absurd (omega arith)
 
--- the names' loop
-pub find-step : (t b : List ℕ) (x n g k left h u v w z : ℕ) (f : Bool) → 0 < left → lookup t b x n g k left ≡ z
-    → h ≡ getD b (4 * k) 0 → u ≡ getD b (4 * k + 1) 0 → v ≡ getD b (4 * k + 2) 0 → w ≡ getD b (4 * k + 3) 0
-    → f ≡ isName t h u v w x n g → f ≡ false → lookup t b x n g (k + 1) (left - 1) ≡ z
+-- the search past the tree: one turn, the name, the end
+pub find-step : (t b : List ℕ) (x n g k left z : ℕ) (f : Bool) → 0 < left → lookup t b x n g k left ≡ z → f ≡ namedAt t b k x n g → f ≡ false
+    → lookup t b x n g (k + 1) (left - 1) ≡ z
 unfolding lookup
-find-step t b x n g k zero h u v w z f l e i0 i1 i2 i3 j o = absurd (omega arith)
-find-step t b x n g k (suc left) h u v w z f l e i0 i1 i2 i3 j o = rw sub-one (rw (← i0, ← i1, ← i2, ← i3, ← j, o) at e)
+find-step t b x n g k zero z f h e j o = absurd (omega arith)
+find-step t b x n g k (suc left) z f h e j o = rw sub-one (rw (← j, o) at e)
 
-pub found-here : (t b : List ℕ) (x n g k left h u v w : ℕ) (f : Bool) → 0 < left
-    → h ≡ getD b (4 * k) 0 → u ≡ getD b (4 * k + 1) 0 → v ≡ getD b (4 * k + 2) 0 → w ≡ getD b (4 * k + 3) 0
-    → f ≡ isName t h u v w x n g → f ≡ true → k ≡ lookup t b x n g k left
+pub find-stop : (t b : List ℕ) (x n g k left z : ℕ) (f : Bool) → 0 < left → lookup t b x n g k left ≡ z → f ≡ namedAt t b k x n g → f ≡ true → k ≡ z
 unfolding lookup
-found-here t b x n g k zero h u v w f l i0 i1 i2 i3 j o = absurd (omega arith)
-found-here t b x n g k (suc left) h u v w f l i0 i1 i2 i3 j o = rw (← i0, ← i1, ← i2, ← i3, ← j, o)
+find-stop t b x n g k zero z f h e j o = absurd (omega arith)
+find-stop t b x n g k (suc left) z f h e j o = rw (← j, o) at e
 
-pub find-stop : (t b : List ℕ) (x n g k left h u v w l₀ m : ℕ) (f : Bool) → l₀ ≡ m → 0 < left → lookup t b x n g k left ≡ lookup t b x n g 0 l₀
-    → h ≡ getD b (4 * k) 0 → u ≡ getD b (4 * k + 1) 0 → v ≡ getD b (4 * k + 2) 0 → w ≡ getD b (4 * k + 3) 0
-    → f ≡ isName t h u v w x n g → f ≡ true → k ≡ lookup t b x n g 0 m
-find-stop t b x n g k left h u v w l₀ m f r l e i0 i1 i2 i3 j o = found-here t b x n g k left h u v w f l i0 i1 i2 i3 j o ∙ e ∙ ap (λ (z : ℕ). lookup t b x n g 0 z) r
-
-pub find-end : (t b : List ℕ) (x n g k left l₀ m : ℕ) → l₀ ≡ m → left ≤ 0 → lookup t b x n g k left ≡ lookup t b x n g 0 l₀ → k ≡ lookup t b x n g 0 m
+pub find-end : (t b : List ℕ) (x n g k left z : ℕ) → left ≤ 0 → lookup t b x n g k left ≡ z → k ≡ z
 unfolding lookup
-find-end t b x n g k zero l₀ m r h e = e ∙ ap (λ (z : ℕ). lookup t b x n g 0 z) r
-find-end t b x n g k (suc left) l₀ m r h e = absurd (omega arith)
+find-end t b x n g k zero z h e = e
+find-end t b x n g k (suc left) z h e = absurd (omega arith)
+
+pub found-from : (t b : List ℕ) (x n g from end left m k : ℕ) → end ≡ m → left ≡ end - from → k ≡ lookup t b x n g from left → k ≡ lookup t b x n g from (m - from)
+found-from t b x n g from end left m k e f i = i ∙ rw (f, e)
+
+-- the turns of a name
+pub turns-step : (t : List ℕ) (p h n p′ h′ x u z : ℕ) → 0 < n → turnsOf t p h n ≡ z → x ≡ getD t p 0 → u ≡ upper x → h′ ≡ mix h u → p′ ≡ next t p
+    → turnsOf t p′ h′ (n - 1) ≡ z
+unfolding turnsOf
+turns-step t p h zero p′ h′ x u z l e a b c d = absurd (omega arith)
+turns-step t p h (suc n) p′ h′ x u z l e a b c d = rw (sub-one, c, b, a, d) e
+
+pub turns-end : (t : List ℕ) (p h n z : ℕ) → n ≤ 0 → turnsOf t p h n ≡ z → h ≡ z
+unfolding turnsOf
+turns-end t p h zero z l e = e
+turns-end t p h (suc n) z l e = absurd (omega arith)
+
+-- the way to a name: one turn; it ends at the name, where it leads to no later entry, where it leads past the last, or with `left`
+abbrev pub way : ℕ → ℕ → Way
+way at turns = record { at = at; turns = turns }
+
+pub way-step : (t b : List ℕ) (end x n g at turns left k turns′ : ℕ) (f : Bool) (w : Way) → 0 < left → wayFrom t b end x n g (way at turns) left ≡ w
+    → f ≡ namedAt t b at x n g → f ≡ false → k ≡ onward b (way at turns) → at < k → k < end → turns′ ≡ turns * 2 % 4294967296
+    → wayFrom t b end x n g (way k turns′) (left - 1) ≡ w
+unfolding wayFrom
+way-step t b end x n g at turns zero k turns′ f w h e i j o p q r = absurd (omega arith)
+way-step t b end x n g at turns (suc left) k turns′ f w h e i j o p q r =
+    rw (sub-one, r) (rw (← i, j, ← o, lt-ltb at k p, lt-ltb k end q) at e)
+
+pub way-here : (t b : List ℕ) (end x n g at turns left : ℕ) (f : Bool) (w : Way) → 0 < left → wayFrom t b end x n g (way at turns) left ≡ w
+    → f ≡ namedAt t b at x n g → f ≡ true → way at turns ≡ w
+unfolding wayFrom
+way-here t b end x n g at turns zero f w h e i j = absurd (omega arith)
+way-here t b end x n g at turns (suc left) f w h e i j = rw (← i, j) at e
+
+pub way-none : (t b : List ℕ) (end x n g at turns left k : ℕ) (f : Bool) (w : Way) → 0 < left → wayFrom t b end x n g (way at turns) left ≡ w
+    → f ≡ namedAt t b at x n g → f ≡ false → k ≡ onward b (way at turns) → k ≤ at → way at turns ≡ w
+unfolding wayFrom
+way-none t b end x n g at turns zero k f w h e i j o p = absurd (omega arith)
+way-none t b end x n g at turns (suc left) k f w h e i j o p = rw (← i, j, ← o, le-ltb at k p) at e
+
+pub way-past : (t b : List ℕ) (end x n g at turns left k : ℕ) (f : Bool) (w : Way) → 0 < left → wayFrom t b end x n g (way at turns) left ≡ w
+    → f ≡ namedAt t b at x n g → f ≡ false → k ≡ onward b (way at turns) → at < k → end ≤ k → way at turns ≡ w
+unfolding wayFrom
+way-past t b end x n g at turns zero k f w h e i j o p q = absurd (omega arith)
+way-past t b end x n g at turns (suc left) k f w h e i j o p q = rw (← i, j, ← o, lt-ltb at k p, le-ltb k end q) at e
+
+pub way-end : (t b : List ℕ) (end x n g at turns left : ℕ) (w : Way) → left ≤ 0 → wayFrom t b end x n g (way at turns) left ≡ w → way at turns ≡ w
+unfolding wayFrom
+way-end t b end x n g at turns zero w h e = e
+way-end t b end x n g at turns (suc left) w h e = absurd (omega arith)
+
+pub way-all : (t b : List ℕ) (st : St) (end x n g c at turns : ℕ) (w : Way) → end ≡ known b st → at ≡ st .root - 1 → c ≡ sigilCode g → turns ≡ turnsOf t x c n
+    → w ≡ wayFrom t b end x n g (way at turns) end → w ≡ wayTo t b st x n g
+unfolding wayTo
+way-all t b st end x n g c at turns w i j k l e = e ∙ rw (l, k, j, i)
+
+both-room : (f g : Bool) (n room : ℕ) → (f ≡ true → n < room) → both f g ≡ true → n < room
+both-room true g n room h e = h refl
+both-room false g n room h e = let z : _≡_ {A = ℕ} 0 1 = cc in absurd (omega arith)
+
+positive : (n : ℕ) → (n ≡ 0 → ⊥) → 0 < n
+positive zero h = absurd (h refl)
+positive (suc n) h = omega arith
+
+-- the name is where its way ends, in a tree
+pub no-root : (t b : List ℕ) (root end at x n g : ℕ) → root ≡ 0 → false ≡ both (ltb 0 root) (both (ltb at end) (namedAt t b at x n g))
+no-root t b root end at x n g e = rw (le-ltb 0 root (omega arith))
+
+pub not-in : (t b : List ℕ) (root end at x n g : ℕ) → end ≤ at → false ≡ both (ltb 0 root) (both (ltb at end) (namedAt t b at x n g))
+not-in t b root end at x n g e = rw (le-ltb at end e, both-false (ltb 0 root))
+
+pub in-tree : (t b : List ℕ) (root end at x n g : ℕ) (f : Bool) → (root ≡ 0 → ⊥) → at < end → f ≡ namedAt t b at x n g
+    → f ≡ both (ltb 0 root) (both (ltb at end) (namedAt t b at x n g))
+in-tree t b root end at x n g f h i e = rw (lt-ltb 0 root (omega (arith, positive root h)), lt-ltb at end i) e
+
+-- a name's entry: in the tree, or past it
+pub seek-reached : (t b : List ℕ) (st : St) (x n g end at : ℕ) (f : Bool) → end ≡ known b st → f ≡ both (ltb 0 (st .root)) (both (ltb at end) (namedAt t b at x n g)) → f ≡ true
+    → at ≡ pick (both (ltb 0 (st .root)) (both (ltb at (known b st)) (namedAt t b at x n g))) at (lookup t b x n g (min (known b st) 32768) (known b st - 32768))
+seek-reached t b st x n g end at f e i j = rw (← e, ← i, j)
+
+pub seek-past : (t b : List ℕ) (st : St) (x n g end at from k : ℕ) (f : Bool) → end ≡ known b st → f ≡ both (ltb 0 (st .root)) (both (ltb at end) (namedAt t b at x n g)) → f ≡ false
+    → from ≡ min end 32768 → k ≡ lookup t b x n g from (known b st - from)
+    → k ≡ pick (both (ltb 0 (st .root)) (both (ltb at (known b st)) (namedAt t b at x n g))) at (lookup t b x n g (min (known b st) 32768) (known b st - 32768))
+seek-past t b st x n g end at from k f e i j o p =
+    let q : known b st - from ≡ known b st - 32768 = omega arith in
+    rw (← e, ← i, j) (p ∙ rw (q, o, e))
+
+-- a tree's first name
+pub root-new : (st : St) (room : ℕ) (f : Bool) → st .root ≡ 0 → f ≡ both (ltb (st .entries) room) (ltb (st .entries) 32768) → f ≡ true
+    → st .entries + 1 ≡ pick (both (eqb (st .root) 0) (both (ltb (st .entries) room) (ltb (st .entries) 32768))) (st .entries + 1) (st .root)
+root-new st room f e i j = rw (eq-eqb (st .root) 0 e, ← i, j)
+
+pub root-not : (st : St) (room : ℕ) (f : Bool) → f ≡ both (ltb (st .entries) room) (ltb (st .entries) 32768) → f ≡ false
+    → st .root ≡ pick (both (eqb (st .root) 0) (both (ltb (st .entries) room) (ltb (st .entries) 32768))) (st .entries + 1) (st .root)
+root-not st room f i j = rw (← i, j, both-false (eqb (st .root) 0))
+
+pub root-old : (st : St) (room : ℕ) → (st .root ≡ 0 → ⊥)
+    → st .root ≡ pick (both (eqb (st .root) 0) (both (ltb (st .entries) room) (ltb (st .entries) 32768))) (st .entries + 1) (st .root)
+root-old st room e = rw (ne-eqb (st .root) 0 e)
+
+pub root-again : (b : List ℕ) (st : St) (k : ℕ) → k ≡ pick (both (eqb (st .root) 0) (mayLink b st)) (st .entries + 1) (st .root) → k ≡ rootOf b st
+unfolding rootOf
+root-again b st k e = e
+
+pub link-room : (n room : ℕ) (f : Bool) → f ≡ both (ltb n room) (ltb n 32768) → f ≡ true → n < room
+link-room n room f e g = both-room (ltb n room) (ltb n 32768) n room (λ i. ltb-true n room i) (sym e ∙ g)
+
+-- a new name is linked
+pick-length : (f : Bool) (a b : List ℕ) → length a ≡ length b → length (pick f a b) ≡ length b
+pick-length true a b e = e
+pick-length false a b e = refl
+
+pub next-linked : (b b₁ : List ℕ) (st : St) (at turns : ℕ) (f : Bool) → 0 < st .root → f ≡ mayLink b st → f ≡ true → b₁ ≡ linkedAt b (st .entries) (way at turns)
+    → b₁ ≡ pick (both (ltb 0 (st .root)) (mayLink b st)) (linkedAt b (st .entries) (way at turns)) b
+next-linked b b₁ st at turns f h i j e = rw (lt-ltb 0 (st .root) h, ← i, j) e
+
+pub next-full : (b : List ℕ) (st : St) (at turns : ℕ) (f : Bool) → f ≡ mayLink b st → f ≡ false
+    → b ≡ pick (both (ltb 0 (st .root)) (mayLink b st)) (linkedAt b (st .entries) (way at turns)) b
+next-full b st at turns f i j = rw (← i, j, both-false (ltb 0 (st .root)))
+
+pub next-none : (b : List ℕ) (st : St) (at turns : ℕ) → st .root ≤ 0
+    → b ≡ pick (both (ltb 0 (st .root)) (mayLink b st)) (linkedAt b (st .entries) (way at turns)) b
+next-none b st at turns h = rw (le-ltb 0 (st .root) h)
+
+pub linked-length : (b : List ℕ) (k : ℕ) (w : Way) → length (linkedAt b k w) ≡ length b
+unfolding linkedAt
+linked-length b k w = pick-length (ltb (w .at) (length b / 4)) (set b (4 * w .at + 3) (withLink (ltb 2147483647 (w .turns)) (getD b (4 * w .at + 3) 0) k)) b (length-set b (4 * w .at + 3) _)
+
+linked-same : (b b₁ : List ℕ) (st : St) (w : Way) → b₁ ≡ pick (both (ltb 0 (st .root)) (mayLink b st)) (linkedAt b (st .entries) w) b → length b₁ ≡ length b
+linked-same b b₁ st w e = ap length e ∙ pick-length (both (ltb 0 (st .root)) (mayLink b st)) (linkedAt b (st .entries) w) b (linked-length b (st .entries) w)
+
+entry-same : (b b₁ : List ℕ) (st : St) → length b₁ ≡ length b → entrySt b₁ st ≡ entrySt b st
+unfolding entrySt
+entry-same b b₁ st e = rw e
+
+sought : (t b : List ℕ) (st : St) (x n g k : ℕ) (w : Way) → w ≡ wayTo t b st x n g
+    → k ≡ pick (both (ltb 0 (st .root)) (both (ltb (w .at) (known b st)) (namedAt t b (w .at) x n g))) (w .at) (lookup t b x n g (min (known b st) 32768) (known b st - 32768))
+    → k ≡ seek t b st x n g
+unfolding seek
+sought t b st x n g k w a e = e ∙ rw a
+
+link-of : (t b b₁ : List ℕ) (st : St) (x n g : ℕ) (w : Way) → w ≡ wayTo t b st x n g
+    → b₁ ≡ pick (both (ltb 0 (st .root)) (mayLink b st)) (linkedAt b (st .entries) w) b → b₁ ≡ linked t b st x n g
+unfolding linked
+link-of t b b₁ st x n g w a f = f ∙ rw a
 
 -- a name that is in the book, and one that is not
-pub symbol-found : (t b : List ℕ) (st : St) (x n g k m v : ℕ) → k ≡ lookup t b x n g 0 (known b st) → m ≡ known b st → k < m → v ≡ payloadAt b (4 * k)
+pub symbol-found : (t b : List ℕ) (st : St) (x n g k m v : ℕ) (w : Way) → w ≡ wayTo t b st x n g
+    → k ≡ pick (both (ltb 0 (st .root)) (both (ltb (w .at) (known b st)) (namedAt t b (w .at) x n g))) (w .at) (lookup t b x n g (min (known b st) 32768) (known b st - 32768))
+    → m ≡ known b st → k < m → v ≡ payloadAt b (4 * k)
     → (b ≡ symbolList t b st x n g) × (st ≡ symbolSt t b st x n g) × (v ≡ symbolNumber t b st x n g)
 unfolding symbolList symbolSt symbolNumber
-symbol-found t b st x n g k m v e i h j = let l = lt-ltb _ _ (rw (e, i) at h) in (rw l, rw l, rw l (rw e at j))
+symbol-found t b st x n g k m v w a e i h j =
+    let q : k ≡ seek t b st x n g = sought t b st x n g k w a e in
+    let l = lt-ltb _ _ (rw (q, i) at h) in
+    (rw l, rw l, rw l (rw q at j))
 
-pub symbol-new : (t b b′ : List ℕ) (st s s′ : St) (x n g k m v w h : ℕ) → k ≡ lookup t b x n g 0 (known b st) → m ≡ known b st → m ≤ k
-    → v ≡ low (st .names) → w ≡ more (st .names) (length b / 4) → h ≡ wordOf 50 v
-    → (b′ ≡ entryList b st h x n g) × (s ≡ entrySt b st) → s′ ≡ withNames s w
-    → (b′ ≡ symbolList t b st x n g) × (s′ ≡ symbolSt t b st x n g) × (v ≡ symbolNumber t b st x n g)
+pub symbol-new : (t b b₁ b₂ : List ℕ) (st s s′ : St) (x n g c k m v u h o : ℕ) (w : Way) → w ≡ wayTo t b st x n g
+    → k ≡ pick (both (ltb 0 (st .root)) (both (ltb (w .at) (known b st)) (namedAt t b (w .at) x n g))) (w .at) (lookup t b x n g (min (known b st) 32768) (known b st - 32768))
+    → m ≡ known b st → m ≤ k → b₁ ≡ pick (both (ltb 0 (st .root)) (mayLink b st)) (linkedAt b (st .entries) w) b
+    → v ≡ low (st .names) → u ≡ more (st .names) (length b / 4) → o ≡ rootOf b st → h ≡ wordOf 50 v → c ≡ sigilCode g
+    → (b₂ ≡ entryList b₁ st h x n c) × (s ≡ entrySt b₁ st) → s′ ≡ withNames s u o
+    → (b₂ ≡ symbolList t b st x n g) × (s′ ≡ symbolSt t b st x n g) × (v ≡ symbolNumber t b st x n g)
 unfolding symbolList symbolSt symbolNumber
-symbol-new t b b′ st s s′ x n g k m v w h e i j p q r o u =
-    let l = le-ltb _ _ (rw (e, i) at j) in (rw l (o .0 ∙ rw (r, p)), rw l (u ∙ rw (q, o .1)), rw l p)
+symbol-new t b b₁ b₂ st s s′ x n g c k m v u h o w a e i j f p q r y z d β =
+    let l = le-ltb _ _ (rw (sought t b st x n g k w a e, i) at j) in
+    let f′ : b₁ ≡ linked t b st x n g = link-of t b b₁ st x n g w a f in
+    (rw l (d .0 ∙ rw (f′, y, p, z)), rw l (β ∙ rw (d .1, q, r, entry-same b b₁ st (linked-same b b₁ st w f))), rw l p)
 
 -- a note, an entry: it fits, it does not
 pub note-in : (l l′ : List ℕ) (st s : St) (h w v : ℕ) (f : Bool) → (l′ ≡ pick (ltb (st .notes) (length l / 4)) (four l (st .notes) h w v 0) l) × (f ≡ ltb (st .notes) (length l / 4)) → f ≡ true
@@ -162,5 +310,5 @@ put-out l st s k m a b c r e f g = let t = le-ltb _ _ (rw e at f) in (rw t, g �
 pub name-other : (t : List ℕ) (h a n x b m y k : ℕ) → k ≡ kind h → (k ≡ 50 → ⊥) → false ≡ isName t h a n x b m y
 name-other t h a n x b m y k e f = rw (ne-eqb (kind h) 50 (rw e at f))
 
-pub name-same : (t : List ℕ) (h a n x b m y k : ℕ) (f : Bool) → k ≡ kind h → k ≡ 50 → f ≡ sameName t a n x b m y → f ≡ isName t h a n x b m y
-name-same t h a n x b m y k f e g i = rw (eq-eqb (kind h) 50 (rw e at g)) i
+pub name-same : (t : List ℕ) (h a n x b m y c k : ℕ) (f : Bool) → k ≡ kind h → k ≡ 50 → c ≡ sigilCode y → f ≡ sameName t a n (x % 4) b m c → f ≡ isName t h a n x b m y
+name-same t h a n x b m y c k f e g j i = rw (eq-eqb (kind h) 50 (rw e at g), ← j) i

@@ -1,12 +1,3 @@
+pub mod Bools
 pub mod Laws
-pub mod Lift
 pub mod Words
-pub mod Hide
-pub mod Simulation
-pub mod Sim
-pub mod Change
-pub mod Delays
-pub mod Whiles
-pub mod WhileWords
-pub mod Clean
-pub mod Memory

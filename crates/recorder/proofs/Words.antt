@@ -89,8 +89,11 @@ zeros-at zero k = refl
 zeros-at (suc n) zero = refl
 zeros-at (suc n) (suc k) = zeros-at n k
 
-head-kind : (k l : ℕ) → kind (wordOf k l) ≡ k
+pub head-kind : (k l : ℕ) → kind (wordOf k l) ≡ k
 head-kind k l = omega arith
+
+pub head-again : (k c l : ℕ) → wordOf k (wordOf c l) ≡ wordOf k l
+head-again k c l = omega arith
 
 head-payload : (k l : ℕ) → payload (wordOf k l) ≡ l % 16777216
 head-payload k l = omega arith

@@ -7,8 +7,9 @@ use lib.Dec.{ltb, eqb}
 use lib.ListN.{length, getD, set, take, drop}
 use Rattle.recorder.specs.declared.word.Range.{Range}
 use Rattle.recorder.specs.declared.codegen.St.{St}
-use Rattle.recorder.specs.Word.{pick, both, kind, kindAt, payloadAt, rangeAt, wordOf, rangeWord}
-use Rattle.recorder.specs.Name.{sameName}
+use Rattle.recorder.specs.declared.codegen.Way.{Way}
+use Rattle.recorder.specs.Word.{pick, both, kind, kindAt, payloadAt, rangeAt, wordOf, rangeWord, next}
+use Rattle.recorder.specs.Name.{upper, sameName}
 use Rattle.recorder.specs.Ideal.{Rec, rec, noRange, lookOf, firstOf}
 use Rattle.recorder.specs.Recorder.{Recorder, Look, unknown}
 use Rattle.recorder.specs.Closing.{isWhile, isWend, isStart, isEnd, isOne, isFor, isNextOf, roundUp}
@@ -24,30 +25,30 @@ mem l n b s = record { list = l; notes = n; book = b; st = s }
 
 -- nothing written yet
 abbrev pub nothing : St
-nothing = record { records = 0; notes = 0; entries = 0; names = 0; datums = 0; bytes = 0; line = 0; first = 0; lfull = false; nfull = false; bfull = false }
+nothing = record { records = 0; notes = 0; entries = 0; names = 0; root = 0; datums = 0; bytes = 0; line = 0; first = 0; lfull = false; nfull = false; bfull = false }
 
 -- begin_line: the line that records and notes carry from here on, without a datum so far
 abbrev pub onLine : St → ℕ → St
-onLine s l = record { records = s .records; notes = s .notes; entries = s .entries; names = s .names; datums = s .datums; bytes = s .bytes; line = l; first = 0; lfull = s .lfull; nfull = s .nfull; bfull = s .bfull }
+onLine s l = record { records = s .records; notes = s .notes; entries = s .entries; names = s .names; root = s .root; datums = s .datums; bytes = s .bytes; line = l; first = 0; lfull = s .lfull; nfull = s .nfull; bfull = s .bfull }
 
 -- one count anew, and its buffer's flag; or one kind's count
 abbrev pub withRecords : St → ℕ → Bool → St
-withRecords s n f = record { records = n; notes = s .notes; entries = s .entries; names = s .names; datums = s .datums; bytes = s .bytes; line = s .line; first = s .first; lfull = f; nfull = s .nfull; bfull = s .bfull }
+withRecords s n f = record { records = n; notes = s .notes; entries = s .entries; names = s .names; root = s .root; datums = s .datums; bytes = s .bytes; line = s .line; first = s .first; lfull = f; nfull = s .nfull; bfull = s .bfull }
 
 abbrev pub withNotes : St → ℕ → Bool → St
-withNotes s n f = record { records = s .records; notes = n; entries = s .entries; names = s .names; datums = s .datums; bytes = s .bytes; line = s .line; first = s .first; lfull = s .lfull; nfull = f; bfull = s .bfull }
+withNotes s n f = record { records = s .records; notes = n; entries = s .entries; names = s .names; root = s .root; datums = s .datums; bytes = s .bytes; line = s .line; first = s .first; lfull = s .lfull; nfull = f; bfull = s .bfull }
 
 abbrev pub withEntries : St → ℕ → Bool → St
-withEntries s n f = record { records = s .records; notes = s .notes; entries = n; names = s .names; datums = s .datums; bytes = s .bytes; line = s .line; first = s .first; lfull = s .lfull; nfull = s .nfull; bfull = f }
+withEntries s n f = record { records = s .records; notes = s .notes; entries = n; names = s .names; root = s .root; datums = s .datums; bytes = s .bytes; line = s .line; first = s .first; lfull = s .lfull; nfull = s .nfull; bfull = f }
 
-abbrev pub withNames : St → ℕ → St
-withNames s n = record { records = s .records; notes = s .notes; entries = s .entries; names = n; datums = s .datums; bytes = s .bytes; line = s .line; first = s .first; lfull = s .lfull; nfull = s .nfull; bfull = s .bfull }
+abbrev pub withNames : St → ℕ → ℕ → St
+withNames s n k = record { records = s .records; notes = s .notes; entries = s .entries; names = n; root = k; datums = s .datums; bytes = s .bytes; line = s .line; first = s .first; lfull = s .lfull; nfull = s .nfull; bfull = s .bfull }
 
 abbrev pub withData : St → ℕ → ℕ → St
-withData s n d = record { records = s .records; notes = s .notes; entries = s .entries; names = s .names; datums = n; bytes = s .bytes; line = s .line; first = d; lfull = s .lfull; nfull = s .nfull; bfull = s .bfull }
+withData s n d = record { records = s .records; notes = s .notes; entries = s .entries; names = s .names; root = s .root; datums = n; bytes = s .bytes; line = s .line; first = d; lfull = s .lfull; nfull = s .nfull; bfull = s .bfull }
 
 abbrev pub withBytes : St → ℕ → St
-withBytes s n = record { records = s .records; notes = s .notes; entries = s .entries; names = s .names; datums = s .datums; bytes = n; line = s .line; first = s .first; lfull = s .lfull; nfull = s .nfull; bfull = s .bfull }
+withBytes s n = record { records = s .records; notes = s .notes; entries = s .entries; names = s .names; root = s .root; datums = s .datums; bytes = n; line = s .line; first = s .first; lfull = s .lfull; nfull = s .nfull; bfull = s .bfull }
 
 -- "List below five words a record, or more than 65,535 records": so many records fit
 abbrev pub listRoom : ℕ → ℕ
@@ -88,30 +89,104 @@ entryList b s h x y z = pick (ltb (s .entries) (length b / 4)) (four b (s .entri
 unfoldable pub entrySt : List ℕ → St → St
 entrySt b s = pick (ltb (s .entries) (length b / 4)) (withEntries s (s .entries + 1) (s .bfull)) (withEntries s (s .entries) true)
 
--- the first of `left` entries, from the k-th on, that is this name; k + left if none is
-abbrev pub isName : List ℕ → ℕ → ℕ → ℕ → ℕ → ℕ → ℕ → ℕ → Bool
-isName t h a m y x n g = pick (eqb (kind h) 50) (sameName t a m y x n g) false
+-- While compiling, the names of the book are a tree. A name's last word has a code of its sigil in its low 2 bits, and above
+-- it, 15 bits each, two entries of later names, 0 for none. A name's units say which of the two leads on to it. Entries
+-- from 32,768 on are in no tree. Closing up leaves the sigil alone in the word.
+abbrev pub sigilCode : ℕ → ℕ
+sigilCode g = pick (eqb g 36) 1 (pick (eqb g 37) 2 0)
 
-abbrev pub namedAt : List ℕ → List ℕ → ℕ → ℕ → ℕ → ℕ → Bool
-namedAt t b k x n g = isName t (getD b (4 * k) 0) (getD b (4 * k + 1) 0) (getD b (4 * k + 2) 0) (getD b (4 * k + 3) 0) x n g
+abbrev pub sigilOf : ℕ → ℕ
+sigilOf c = pick (eqb c 1) 36 (pick (eqb c 2) 37 0)
 
-unfoldable pub lookup : List ℕ → List ℕ → ℕ → ℕ → ℕ → ℕ → ℕ → ℕ
-lookup t b x n g k zero = k
-lookup t b x n g k (suc left) = pick (namedAt t b k x n g) k (lookup t b x n g (k + 1) left)
+abbrev pub linkOf : Bool → ℕ → ℕ
+linkOf high w = pick high (w / 131072) (w / 4 % 32768)
+
+abbrev pub withLink : Bool → ℕ → ℕ → ℕ
+withLink high w k = pick high (w % 131072 + 131072 * (k % 32768)) (w / 131072 * 131072 + 4 * (k % 32768) + w % 4)
 
 -- the entries that the book has
 abbrev pub known : List ℕ → St → ℕ
 known b s = min (s .entries) (length b / 4)
 
+-- whether an entry is this name
+abbrev pub isName : List ℕ → ℕ → ℕ → ℕ → ℕ → ℕ → ℕ → ℕ → Bool
+isName t h a m y x n g = pick (eqb (kind h) 50) (sameName t a m (y % 4) x n (sigilCode g)) false
+
+abbrev pub namedAt : List ℕ → List ℕ → ℕ → ℕ → ℕ → ℕ → Bool
+namedAt t b k x n g = pick (ltb k (length b / 4)) (isName t (getD b (4 * k) 0) (getD b (4 * k + 1) 0) (getD b (4 * k + 2) 0) (getD b (4 * k + 3) 0) x n g) false
+
+-- the first of `left` entries, from the k-th on, that is this name; k + left if none is
+unfoldable pub lookup : List ℕ → List ℕ → ℕ → ℕ → ℕ → ℕ → ℕ → ℕ
+lookup t b x n g k zero = k
+lookup t b x n g k (suc left) = pick (namedAt t b k x n g) k (lookup t b x n g (k + 1) left)
+
+-- a number of 32 bits from a name's units in upper case, that tells its way: its highest bit the first turn
+abbrev pub mix : ℕ → ℕ → ℕ
+mix h u = (h + u) * 2654435769 % 4294967296
+
+unfoldable pub turnsOf : List ℕ → ℕ → ℕ → ℕ → ℕ
+turnsOf t at h zero = h
+turnsOf t at h (suc n) = turnsOf t (next t at) (mix h (upper (getD t at 0))) n
+
+-- the entry that the way leads on to
+abbrev pub onward : List ℕ → Way → ℕ
+onward b w = pick (ltb (w .at) (length b / 4)) (linkOf (ltb 2147483647 (w .turns)) (getD b (4 * w .at + 3) 0)) 0
+
+abbrev pub leads : List ℕ → ℕ → Way → Bool
+leads b end w = both (ltb (w .at) (onward b w)) (ltb (onward b w) end)
+
+abbrev pub moved : ℕ → Way → Way
+moved k w = record { at = k; turns = w .turns * 2 % 4294967296 }
+
+-- the way to a name, up to the name or to where it would be linked
+unfoldable pub wayFrom : List ℕ → List ℕ → ℕ → ℕ → ℕ → ℕ → Way → ℕ → Way
+wayFrom t b end x n g w zero = w
+wayFrom t b end x n g w (suc left) = pick (namedAt t b (w .at) x n g) w (pick (leads b end w) (wayFrom t b end x n g (moved (onward b w) w) left) w)
+
+unfoldable pub wayTo : List ℕ → List ℕ → St → ℕ → ℕ → ℕ → Way
+wayTo t b s x n g = wayFrom t b (known b s) x n g (record { at = s .root - 1; turns = turnsOf t x (sigilCode g) n }) (known b s)
+
+-- the entry of a name; `known` if there is none
+unfoldable pub seek : List ℕ → List ℕ → St → ℕ → ℕ → ℕ → ℕ
+seek t b s x n g =
+    pick (both (ltb 0 (s .root)) (both (ltb (wayTo t b s x n g .at) (known b s)) (namedAt t b (wayTo t b s x n g .at) x n g)))
+    (wayTo t b s x n g .at)
+    (lookup t b x n g (min (known b s) 32768) (known b s - 32768))
+
+-- the next entry is one that a tree may hold
+abbrev pub mayLink : List ℕ → St → Bool
+mayLink b s = both (ltb (s .entries) (length b / 4)) (ltb (s .entries) 32768)
+
+-- a new name, the next entry, is linked where its way ends
+unfoldable pub linkedAt : List ℕ → ℕ → Way → List ℕ
+linkedAt b k w = pick (ltb (w .at) (length b / 4)) (set b (4 * w .at + 3) (withLink (ltb 2147483647 (w .turns)) (getD b (4 * w .at + 3) 0) k)) b
+
+unfoldable pub linked : List ℕ → List ℕ → St → ℕ → ℕ → ℕ → List ℕ
+linked t b s x n g = pick (both (ltb 0 (s .root)) (mayLink b s)) (linkedAt b (s .entries) (wayTo t b s x n g)) b
+
+-- the first name of the tree plus 1, or 0
+unfoldable pub rootOf : List ℕ → St → ℕ
+rootOf b s = pick (both (eqb (s .root) 0) (mayLink b s)) (s .entries + 1) (s .root)
+
 unfoldable pub symbolNumber : List ℕ → List ℕ → St → ℕ → ℕ → ℕ → ℕ
-symbolNumber t b s x n g =
-    pick (ltb (lookup t b x n g 0 (known b s)) (known b s)) (payloadAt b (4 * lookup t b x n g 0 (known b s))) (low (s .names))
+symbolNumber t b s x n g = pick (ltb (seek t b s x n g) (known b s)) (payloadAt b (4 * seek t b s x n g)) (low (s .names))
 
 unfoldable pub symbolList : List ℕ → List ℕ → St → ℕ → ℕ → ℕ → List ℕ
-symbolList t b s x n g = pick (ltb (lookup t b x n g 0 (known b s)) (known b s)) b (entryList b s (wordOf 50 (low (s .names))) x n g)
+symbolList t b s x n g = pick (ltb (seek t b s x n g) (known b s)) b (entryList (linked t b s x n g) s (wordOf 50 (low (s .names))) x n (sigilCode g))
 
 unfoldable pub symbolSt : List ℕ → List ℕ → St → ℕ → ℕ → ℕ → St
-symbolSt t b s x n g = pick (ltb (lookup t b x n g 0 (known b s)) (known b s)) s (withNames (entrySt b s) (more (s .names) (length b / 4)))
+symbolSt t b s x n g = pick (ltb (seek t b s x n g) (known b s)) s (withNames (entrySt b s) (more (s .names) (length b / 4)) (rootOf b s))
+
+-- closing up: a name's last word is its sigil again
+abbrev pub unlinkAt : List ℕ → ℕ → List ℕ
+unlinkAt b k = pick (eqb (kindAt b (4 * k)) 50) (set b (4 * k + 3) (sigilOf (getD b (4 * k + 3) 0 % 4))) b
+
+unfoldable pub unlinkFrom : List ℕ → ℕ → ℕ → List ℕ
+unlinkFrom b k zero = b
+unlinkFrom b k (suc left) = unlinkFrom (unlinkAt b k) (k + 1) left
+
+unfoldable pub unlinked : List ℕ → St → List ℕ
+unlinked b s = unlinkFrom b 0 (known b s)
 
 -- a datum; the line's first datum is set whether it fits or not
 unfoldable pub datumList : List ℕ → St → ℕ → ℕ → ℕ → List ℕ
@@ -278,5 +353,5 @@ memR t = record {
   look = λ m k. lookAt (m .list) k;
   settle = λ m k v. mem (onRec (settleArgs v) (m .list) (m .st) k) (m .notes) (m .book) (m .st);
   unsettle = λ m k. mem (onRec clearArgs (m .list) (m .st) k) (m .notes) (m .book) (m .st);
-  cleanUp = λ m. mem (cleanUpAll (m .list) (m .notes) (m .st) .list) (cleanUpAll (m .list) (m .notes) (m .st) .notes) (m .book) (cleanUpAll (m .list) (m .notes) (m .st) .st);
+  cleanUp = λ m. mem (cleanUpAll (m .list) (m .notes) (m .st) .list) (cleanUpAll (m .list) (m .notes) (m .st) .notes) (unlinked (m .book) (m .st)) (cleanUpAll (m .list) (m .notes) (m .st) .st);
 }

@@ -12,21 +12,22 @@ use crate::word::unit_at;
 use crate::word::word_at;
 use crate::word::word_of;
 ghost use mathlib.Core.Path.{_≡_};
-ghost use Prim.Native.Nat.{_+_, _*_, _/_, _%_, min};
-ghost use lib.Dec.{ltb};
-ghost use lib.ListN.{length, replicate};
-ghost use Rattle.recorder.specs.Word.{pick, wordOf, rangeWord};
+ghost use Prim.Native.Nat.{_+_, _*_, _-_, _/_, _%_, min};
+ghost use lib.Dec.{ltb, eqb};
+ghost use lib.ListN.{length, getD, replicate};
+ghost use Rattle.recorder.specs.Word.{pick, both, wordOf, rangeWord};
 ghost use Rattle.recorder.specs.Name.{upper, sameUnits, sameName};
 ghost use Rattle.recorder.specs.Ideal.{firstOf};
-ghost use Rattle.recorder.specs.Mem.{nothing, onLine, withRecords, withNotes, withEntries, withNames, withData, withBytes, listRoom, four, low, more, putSt, putRec, noteList, noteSt, entryList, entrySt, isName, lookup, symbolNumber, symbolList, symbolSt, datumList, datumSt, byteList, byteSt, onRec, setA, setB, setC, settleArgs, clearArgs, lookAt};
+ghost use Rattle.recorder.specs.Mem.{sigilCode, linkOf, withLink, known, namedAt, mix, turnsOf, wayTo, mayLink, linkedAt, nothing, onLine, withRecords, withNotes, withEntries, withNames, withData, withBytes, listRoom, four, low, more, putSt, putRec, noteList, noteSt, entryList, entrySt, isName, lookup, symbolNumber, symbolList, symbolSt, datumList, datumSt, byteList, byteSt, onRec, setA, setB, setC, settleArgs, clearArgs, lookAt};
 
-// The counts, the numbers within the book's three kinds, the current line with its first datum plus 1 (0 while it has none),
+// The counts, the numbers within the book's three kinds, the first name's entry plus 1 (0 without one), the current line with its first datum plus 1 (0 while it has none),
 // and whether something did not fit.
 pub struct St {
     pub records: u32,
     pub notes: usize,
     pub entries: usize,
     pub names: usize,
+    pub root: usize,
     pub datums: usize,
     pub bytes: usize,
     pub line: u32,
@@ -40,6 +41,12 @@ pub struct St {
 pub struct Named {
     pub st: St,
     pub number: u32,
+}
+
+// On the way to a name: an entry of the tree, and the turns that are left, the next one in the highest bit.
+pub struct Way {
+    pub at: usize,
+    pub turns: u32,
 }
 
 // What resolution reads of a record.
@@ -58,6 +65,7 @@ pub fn new() -> St
         notes: 0,
         entries: 0,
         names: 0,
+        root: 0,
         datums: 0,
         bytes: 0,
         line: 0,
@@ -76,6 +84,7 @@ pub fn begin_line(st: St, line: u32) -> St
         notes: st.notes,
         entries: st.entries,
         names: st.names,
+        root: st.root,
         datums: st.datums,
         bytes: st.bytes,
         line,
@@ -94,6 +103,7 @@ pub fn with_records(st: St, records: u32, lfull: bool) -> St
         notes: st.notes,
         entries: st.entries,
         names: st.names,
+        root: st.root,
         datums: st.datums,
         bytes: st.bytes,
         line: st.line,
@@ -112,6 +122,7 @@ pub fn with_notes(st: St, notes: usize, nfull: bool) -> St
         notes,
         entries: st.entries,
         names: st.names,
+        root: st.root,
         datums: st.datums,
         bytes: st.bytes,
         line: st.line,
@@ -130,6 +141,7 @@ pub fn with_entries(st: St, entries: usize, bfull: bool) -> St
         notes: st.notes,
         entries,
         names: st.names,
+        root: st.root,
         datums: st.datums,
         bytes: st.bytes,
         line: st.line,
@@ -140,14 +152,15 @@ pub fn with_entries(st: St, entries: usize, bfull: bool) -> St
     }
 }
 
-pub fn with_names(st: St, names: usize) -> St
-    ensures { λ r. ⌜ r ≡ withNames st names ⌝ }
+pub fn with_names(st: St, names: usize, root: usize) -> St
+    ensures { λ r. ⌜ r ≡ withNames st names root ⌝ }
 {
     St {
         records: st.records,
         notes: st.notes,
         entries: st.entries,
         names,
+        root,
         datums: st.datums,
         bytes: st.bytes,
         line: st.line,
@@ -166,6 +179,7 @@ pub fn with_data(st: St, datums: usize, first: u32) -> St
         notes: st.notes,
         entries: st.entries,
         names: st.names,
+        root: st.root,
         datums,
         bytes: st.bytes,
         line: st.line,
@@ -184,6 +198,7 @@ pub fn with_bytes(st: St, bytes: usize) -> St
         notes: st.notes,
         entries: st.entries,
         names: st.names,
+        root: st.root,
         datums: st.datums,
         bytes,
         line: st.line,
@@ -198,6 +213,13 @@ pub fn least(a: usize, b: usize) -> usize
     ensures { λ r. ⌜ r ≡ min a b ⌝ }
 {
     if a < b { a } else { b }
+}
+
+// The difference, or 0.
+fn less(a: usize, b: usize) -> usize
+    ensures { λ r. ⌜ r ≡ a - b ⌝ }
+{
+    if b < a { a - b } else { 0 }
 }
 
 // So many records fit into so many words.
@@ -341,26 +363,53 @@ fn same_name(text: &[u16], a: u32, n: u32, x: u32, b: u32, m: u32, y: u32) -> bo
     same_units(text, a as usize, b as usize, n)
 }
 
+// A name's last word: a code of its sigil in the low 2 bits, and two entries of later names.
+fn sigil_code(g: u32) -> u32
+    ensures { λ r. ⌜ r ≡ sigilCode g ⌝ }
+{
+    if g == 36 {
+        return 1;
+    }
+    if g == 37 {
+        return 2;
+    }
+    0
+}
+
+fn link_of(high: bool, w: u32) -> u32
+    ensures { λ r. ⌜ r ≡ linkOf high w ⌝ }
+{
+    if high { w / 131072 } else { w / 4 % 32768 }
+}
+
+// The word with one of its two entries set.
+fn with_link(high: bool, w: u32, k: usize) -> u32
+    ensures { λ r. ⌜ r ≡ withLink high w k ⌝ }
+{
+    let v = (k % 32768) as u32;
+    if high {
+        w % 131072 + 131072 * v
+    } else {
+        w / 131072 * 131072 + 4 * v + w % 4
+    }
+}
+
 // Whether the four words of an entry are a name's, and that name is this one.
-fn is_named(text: &[u16], h: u32, a: u32, n: u32, x: u32, start: u32, len: u32, sigil: u32) -> bool
-    ensures { λ r. ⌜ r ≡ isName (now (text .entry)) h a n x start len sigil ⌝ }
+fn is_named(text: &[u16], h: u32, a: u32, n: u32, y: u32, start: u32, len: u32, sigil: u32) -> bool
+    ensures { λ r. ⌜ r ≡ isName (now (text .entry)) h a n y start len sigil ⌝ }
 {
     if kind_of(h) != 50 {
         return false;
     }
-    same_name(text, a, n, x, start, len, sigil)
+    same_name(text, a, n, y % 4, start, len, sigil_code(sigil))
 }
 
-// The first entry that is this name, or how many are known.
-fn find(text: &[u16], book: &[u32], start: u32, len: u32, sigil: u32, entries: usize) -> usize
-    ensures { λ r. ⌜ r ≡ lookup (now (text .entry)) (now (book .entry)) start len sigil 0 (min entries (length (now (book .entry)) / 4)) ⌝ }
+fn named_at(text: &[u16], book: &[u32], k: usize, start: u32, len: u32, sigil: u32) -> bool
+    ensures { λ r. ⌜ r ≡ namedAt (now (text .entry)) (now (book .entry)) k start len sigil ⌝ }
 {
-    let mut k: usize = 0;
-    let mut left = least(entries, book.len() / 4);
-    while 0 < left {
-        left -= 1;
+    if k < book.len() / 4 {
         let i = 4 * k;
-        if is_named(
+        is_named(
             text,
             word_at(book, i),
             word_at(book, i + 1),
@@ -369,12 +418,179 @@ fn find(text: &[u16], book: &[u32], start: u32, len: u32, sigil: u32, entries: u
             start,
             len,
             sigil,
-        ) {
+        )
+    } else {
+        false
+    }
+}
+
+// The first entry from the k-th on that is this name, or how many are known.
+fn find(
+    text: &[u16],
+    book: &[u32],
+    start: u32,
+    len: u32,
+    sigil: u32,
+    from: usize,
+    entries: usize,
+) -> usize
+    ensures { λ r. ⌜ r ≡ lookup (now (text .entry)) (now (book .entry)) start len sigil from (min entries (length (now (book .entry)) / 4) - from) ⌝ }
+{
+    let mut k: usize = from;
+    let mut left = less(least(entries, book.len() / 4), from);
+    while 0 < left {
+        left -= 1;
+        if named_at(text, book, k, start, len, sigil) {
             return k;
         }
         k += 1;
     }
     k
+}
+
+fn mix(h: u32, u: u16) -> u32
+    ensures { λ r. ⌜ r ≡ mix h u ⌝ }
+{
+    ((h as u64 + u as u64) * 2654435769 % 4294967296) as u32
+}
+
+// The turns of a name's way, from its units in upper case.
+fn turns_of(text: &[u16], at: u32, first: u32, n: u32) -> u32
+    ensures { λ r. ⌜ r ≡ turnsOf (now (text .entry)) at first n ⌝ }
+{
+    let mut p = at as usize;
+    let mut h = first;
+    let mut left = n;
+    while 0 < left {
+        h = mix(h, raised(unit_at(text, p)));
+        p = behind_unit(text, p);
+        left -= 1;
+    }
+    h
+}
+
+fn is_high(turns: u32) -> bool
+    ensures { λ r. ⌜ r ≡ ltb 2147483647 turns ⌝ }
+{
+    2147483647 < turns
+}
+
+fn next_turn(turns: u32) -> u32
+    ensures { λ r. ⌜ r ≡ turns * 2 % 4294967296 ⌝ }
+{
+    (turns as u64 * 2 % 4294967296) as u32
+}
+
+// The entry that the way leads on to.
+fn onward(book: &[u32], at: usize, turns: u32) -> usize
+    ensures { λ r. ⌜ r ≡ pick (ltb at (length (now (book .entry)) / 4)) (linkOf (ltb 2147483647 turns) (getD (now (book .entry)) (4 * at + 3) 0)) 0 ⌝ }
+{
+    if at < book.len() / 4 {
+        link_of(is_high(turns), word_at(book, 4 * at + 3)) as usize
+    } else {
+        0
+    }
+}
+
+// The way to a name, up to the name or to where it would be linked.
+fn way_to(text: &[u16], book: &[u32], st: St, start: u32, len: u32, sigil: u32) -> Way
+    ensures { λ r. ⌜ r ≡ wayTo (now (text .entry)) (now (book .entry)) st start len sigil ⌝ }
+{
+    let end = least(st.entries, book.len() / 4);
+    let mut at = less(st.root, 1);
+    let mut turns = turns_of(text, start, sigil_code(sigil), len);
+    let mut left = end;
+    while 0 < left {
+        left -= 1;
+        if named_at(text, book, at, start, len, sigil) {
+            return Way { at, turns };
+        }
+        let k = onward(book, at, turns);
+        if k <= at {
+            return Way { at, turns };
+        }
+        if end <= k {
+            return Way { at, turns };
+        }
+        at = k;
+        turns = next_turn(turns);
+    }
+    Way { at, turns }
+}
+
+fn may_link(st: St, room: usize) -> bool
+    ensures { λ r. ⌜ r ≡ both (ltb (st .entries) room) (ltb (st .entries) 32768) ⌝ }
+{
+    if st.entries < room {
+        st.entries < 32768
+    } else {
+        false
+    }
+}
+
+fn root_of(st: St, room: usize) -> usize
+    ensures { λ r. ⌜ r ≡ pick (both (eqb (st .root) 0) (both (ltb (st .entries) room) (ltb (st .entries) 32768))) (st .entries + 1) (st .root) ⌝ }
+{
+    if st.root == 0 {
+        if may_link(st, room) {
+            return st.entries + 1;
+        }
+    }
+    st.root
+}
+
+// A new name, linked where its way ends.
+fn link(book: &mut [u32], at: usize, turns: u32, k: usize)
+    ensures { λ r. ⌜ now (book .exit) ≡ linkedAt (now (book .entry)) k (record { at = at; turns = turns }) ⌝ }
+{
+    if at < book.len() / 4 {
+        let i = 4 * at + 3;
+        book[i] = with_link(is_high(turns), word_at(book, i), k);
+    }
+}
+
+// The same, where there is a tree and it may hold the next entry.
+fn link_next(book: &mut [u32], st: St, at: usize, turns: u32)
+    ensures { λ r. ⌜ now (book .exit) ≡ pick (both (ltb 0 (st .root)) (mayLink (now (book .entry)) st)) (linkedAt (now (book .entry)) (st .entries) (record { at = at; turns = turns })) (now (book .entry)) ⌝ }
+{
+    if 0 < st.root {
+        if may_link(st, book.len() / 4) {
+            link(book, at, turns, st.entries);
+        }
+    }
+}
+
+// Whether the way in a tree ended at the name itself.
+fn is_reached(
+    text: &[u16],
+    book: &[u32],
+    root: usize,
+    known: usize,
+    at: usize,
+    start: u32,
+    len: u32,
+    sigil: u32,
+) -> bool
+    ensures { λ r. ⌜ r ≡ both (ltb 0 root) (both (ltb at known) (namedAt (now (text .entry)) (now (book .entry)) at start len sigil)) ⌝ }
+{
+    if root == 0 {
+        return false;
+    }
+    if known <= at {
+        return false;
+    }
+    named_at(text, book, at, start, len, sigil)
+}
+
+// The entry of a name whose way ends at `at`, or how many are known.
+fn seek(text: &[u16], book: &[u32], st: St, at: usize, start: u32, len: u32, sigil: u32) -> usize
+    ensures { λ r. ⌜ r ≡ pick (both (ltb 0 (st .root)) (both (ltb at (known (now (book .entry)) st)) (namedAt (now (text .entry)) (now (book .entry)) at start len sigil))) at (lookup (now (text .entry)) (now (book .entry)) start len sigil (min (known (now (book .entry)) st) 32768) (known (now (book .entry)) st - 32768)) ⌝ }
+{
+    let end = least(st.entries, book.len() / 4);
+    if is_reached(text, book, st.root, end, at, start, len, sigil) {
+        return at;
+    }
+    find(text, book, start, len, sigil, least(end, 32768), st.entries)
 }
 
 // The symbol of a name, which is put into the book where it is new.
@@ -389,15 +605,20 @@ pub fn make_symbol(
     ensures { λ r. ⌜ (now (book .exit) ≡ symbolList (now (text .entry)) (now (book .entry)) st start len sigil) × (r .st ≡ symbolSt (now (text .entry)) (now (book .entry)) st start len sigil) × (r .number ≡ symbolNumber (now (text .entry)) (now (book .entry)) st start len sigil) ⌝ }
 {
     let room = book.len() / 4;
-    let k = find(text, book, start, len, sigil, st.entries);
+    let way = way_to(text, book, st, start, len, sigil);
+    let at = way.at;
+    let turns = way.turns;
+    let k = seek(text, book, st, at, start, len, sigil);
     if k < least(st.entries, room) {
         let found = payload_at(book, 4 * k);
         return Named { st, number: found };
     }
+    link_next(book, st, at, turns);
     let number = low_bits(st.names);
     let names = one_more(st.names, room);
-    let s = put_entry(book, st, word_of(50, number), start, len, sigil);
-    let t = with_names(s, names);
+    let root = root_of(st, room);
+    let s = put_entry(book, st, word_of(50, number), start, len, sigil_code(sigil));
+    let t = with_names(s, names, root);
     Named { st: t, number }
 }
 

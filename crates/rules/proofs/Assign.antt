@@ -13,11 +13,11 @@ use native.Mathlib.Omega.{arith}
 use Rattle.recorder.specs.Word.{pick, both, either}
 use Rattle.recorder.specs.Ideal.{Rec, Entry}
 use Rattle.recorder.specs.Closing.{isOp, isWend, isWhile, recAt, endRec}
+use Rattle.recorder.proofs.Bools.{both-left, both-right}
 use Rattle.sheet.specs.Tree.{Opt, absent, given}
 use Rattle.rules.specs.Missing.{All}
 use Rattle.rules.specs.Piles.{num, Pile, operands, wantsOf, taken, step}
 use Rattle.rules.specs.Demand.{targets, isIn, someBelow, callAt, fromOn, fromNext, insideOn, fromReturn, fromWend, reached, pileAt, Fits, Orderly, ExactlyOne}
-use Rattle.rules.proofs.BoolLaws.{both-left, both-right}
 use Rattle.rules.proofs.PileLaws.{andThen, pileIn, quietCall, isJumpCall, Ahead, ahead-append, ahead-at, all-map}
 use Rattle.rules.proofs.Blocks.{Body, body-left, pile-none, pile-left}
 use Rattle.rules.proofs.Traces.{Trace, trace-at, trace-step, trace-quiet, trace-each, trace-on, trace-append}

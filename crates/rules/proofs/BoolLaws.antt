@@ -9,14 +9,6 @@ use Rattle.recorder.specs.Word.{both, either}
 pub no-one : {A : Type 0} → _≡_ {A = Bool} false true → A
 no-one e = let y : _≡_ {A = ℕ} 0 1 = cc in absurd (omega arith)
 
-pub both-left : (a b : Bool) → both a b ≡ true → a ≡ true
-both-left true b e = refl
-both-left false b e = e
-
-pub both-right : (a b : Bool) → both a b ≡ true → b ≡ true
-both-right true b e = e
-both-right false b e = no-one e
-
 pub not-both : (a b : Bool) → both a b ≡ false → b ≡ true → a ≡ false
 not-both true b e f = no-one (sym e ∙ f)
 not-both false b e f = refl

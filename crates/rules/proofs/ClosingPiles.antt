@@ -14,11 +14,12 @@ use Rattle.recorder.specs.Recorder.{Recorder, unpack}
 use Rattle.recorder.specs.Ideal.{Rec, rec, noRec, Note, noteOf, Entry, Ideal, change, settled, unsettled, withB, lookOf, Search, missing, found}
 use Rattle.recorder.specs.Marks.{Mark, addrOf, dataOf, orElse}
 use Rattle.recorder.specs.Closing.{rulesR, isWend, isWhile, closes, opened, endFrom, endAt, closeWhiles, openNote, openNotes}
+use Rattle.recorder.proofs.Bools.{both-left, both-right}
 use Rattle.rules.specs.Program.{isPendingJump, isPendingRestore, settleBy, settleJump, settleRestore, resolveLabels, resolveDatumIndices}
 use Rattle.rules.specs.Missing.{All}
 use Rattle.rules.specs.Piles.{Pile, wantsOf, taken, step}
 use Rattle.rules.specs.Demand.{NoError, targets}
-use Rattle.rules.proofs.BoolLaws.{not-both, both-left, both-right}
+use Rattle.rules.proofs.BoolLaws.{not-both}
 use Rattle.rules.proofs.PileLaws.{fixedTargets, isJumpCall, all-left, all-right}
 use Rattle.rules.proofs.Grown.{Warning, change-at}
 use Rattle.rules.proofs.Traces.{Fixed, Zip, Alike}

@@ -12,12 +12,13 @@ use native.Mathlib.Omega.{arith}
 use Rattle.recorder.specs.Word.{pick, both, either}
 use Rattle.recorder.specs.Ideal.{Rec, noRec, Entry, change}
 use Rattle.recorder.specs.Closing.{isZero, isOne, isStart, isEnd, isFor, isNextOf, recAt, isDelay, isSteppedDelay, noOp, sleep, wholeEnd, delayed, steppedDelayed, delayFrom, delays}
-use Rattle.recorder.proofs.Clean.{delay-length}
+use Rattle.recorder.proofs.Bools.{both-left, both-right}
+use Rattle.simulation.proofs.Clean.{delay-length}
 use Rattle.sheet.specs.Tree.{absent, given}
 use Rattle.rules.specs.Tables.{operand}
 use Rattle.rules.specs.Piles.{Kind, num, txt, plc, Pile, kindOf, symbolType, operands, wantsOf, taken, step}
 use Rattle.rules.specs.Demand.{targets}
-use Rattle.rules.proofs.BoolLaws.{no-one, both-left, both-right, either-of}
+use Rattle.rules.proofs.BoolLaws.{no-one, either-of}
 use Rattle.rules.proofs.PileLaws.{pileIn, isJumpCall, Jumps, Ahead}
 use Rattle.rules.proofs.Blocks.{Empty, Body}
 use Rattle.rules.proofs.Grown.{change-append}

@@ -12,7 +12,8 @@ use Rattle.recorder.specs.Recorder.{Recorder}
 use Rattle.recorder.specs.Ideal.{Rec, noRec, Entry, howMany, Ideal, ideal, lookOf}
 use Rattle.recorder.specs.Marks.{Mark, mark, addrOf, dataOf}
 use Rattle.recorder.specs.Closing.{rulesR, cleanUp, closeWhiles, openNotes, delays, endRec, isWend}
-use Rattle.recorder.proofs.Clean.{close-length, delays-length}
+use Rattle.recorder.proofs.Bools.{both-left}
+use Rattle.simulation.proofs.Clean.{close-length, delays-length}
 use Rattle.sheet.specs.declared.form.Checked.{Checked}
 use Rattle.sheet.specs.declared.form.Checked.the-variants.{Accepted, TooLong, Surrogate, WorkTooShort, Offends}
 use Rattle.sheet.specs.declared.form.Offence.the-variants.{BadWord, TooDeep, BadLength, BadRange, Fseek}
@@ -24,7 +25,6 @@ use Rattle.rules.specs.Outcome.{Lengths, refused, accepted, mostRecords,
 use Rattle.rules.specs.Missing.{All, Whole, WholeStmts}
 use Rattle.rules.specs.Piles.{Pile}
 use Rattle.rules.specs.Demand.{NoError, stmtsEdges, linesEdges, statementEdges, ExactlyOne}
-use Rattle.rules.proofs.BoolLaws.{both-left}
 use Rattle.rules.proofs.PileLaws.{all-left, all-right, all-append, pileIn}
 use Rattle.rules.proofs.Grown.{Prefix, Code, seq, stay, fails, with-ok, Warning, same}
 use Rattle.rules.proofs.ExprPiles.{Few}

@@ -6,8 +6,9 @@ use Prim.Native.Nat.{ℕ, zero, suc, _+_}
 use lib.Dec.{eqb, leb, ltb}
 use lib.ListN.{length, getD}
 use native.Mathlib.Omega.{arith}
-use Rattle.recorder.specs.Word.{pick, both, payloadAt, next}
+use Rattle.recorder.specs.Word.{pick, both, payloadAt, next, choose}
 use Rattle.recorder.specs.declared.word.Range.{Range}
+use Rattle.recorder.proofs.Bools.{both-left, both-right}
 use Rattle.sheet.specs.declared.form.Item.{Item}
 use Rattle.sheet.specs.declared.form.Item.the-variants.{Nothing, Node, Source as source, Element as element}
 use Rattle.sheet.specs.declared.form.Sort.{Sort}
@@ -25,16 +26,17 @@ use Rattle.sheet.specs.Form
 use Rattle.sheet.specs.Check.{checked, isTooLong, hasSurrogate, formChecked}
 use Rattle.sheet.specs.Skip.{skipItem, skipPair, skipList, skipTimes, skipField, skipNode, skipSource, skipElement}
 use Rattle.sheet.specs.Tree.{Expr, FieldSpec, WriteElement, Stmt, ifThen, ifElse, then, shapeTable, shapeOf, exprsAt, itemsAt, exprListAt, exprNode, exprAt, stmtsAt, elementOf, ifAt, stmtNode, stmtAt, lineAt, behindLabel, behindLine, lineStmts, programAt}
-use Rattle.sheet.proofs.Lines.{then-first}
-use Rattle.sheet.proofs.Accepted.{Lands, lands-choose, lands-then, word-lands, range-lands, item-lands, list-lands, field-lands, node-lands, accepted}
+use Rattle.sheet.proofs.Walks.{pick-behind}
+use Rattle.walk.proofs.Lines.{then-first}
+use Rattle.walk.proofs.Accepted.{Lands, lands-choose, lands-then, word-lands, range-lands, item-lands, list-lands, field-lands, node-lands, accepted}
 use Rattle.rules.specs.declared.types.«Type».the-variants.{String, Real}
 use Rattle.rules.specs.Missing.{All}
 use Rattle.rules.specs.Tables.{operand}
 use Rattle.rules.specs.Piles.{isSet}
-use Rattle.rules.proofs.BoolLaws.{no-one, both-left, both-right}
+use Rattle.rules.proofs.BoolLaws.{no-one}
 use Rattle.rules.proofs.OpPiles.{IsPlace, IsInput, AllExprs, Filled, FilledCall, FormedElement, PlainOp, DrawOp, SetOp}
 use Rattle.rules.proofs.BlockPiles.{Some, FormedStmt, FormedStmts}
-use Rattle.rules.proofs.SheetWalk.{goes-on, nonempty, inside, passes}
+use Rattle.rules.proofs.SheetWalk.{goes-on, nonempty, inside}
 use Rattle.rules.proofs.ProgramPiles.{Formed}
 
 -- the numbers of statements, by their shape
@@ -396,11 +398,11 @@ module _ (s t : List ℕ) (line : Line) where
     some-items h g (suc n) at e = tt
 
     write-values : (at p : ℕ) → Fs (optional expr ∷ nonEmpty₂ expr flag ∷ []) at p
-        → Some {A = WriteElement} (itemsAt s (λ q. record { datum = exprAt s left q; comma = payloadAt s (skip exprSort q) }) (λ q. next s (skip exprSort q)) (payloadAt s (Form.choose (Form.isAbsent s at) (next s) (skip exprSort) at)) (next s (Form.choose (Form.isAbsent s at) (next s) (skip exprSort) at)))
+        → Some {A = WriteElement} (itemsAt s (λ q. record { datum = exprAt s left q; comma = payloadAt s (skip exprSort q) }) (λ q. next s (skip exprSort q)) (payloadAt s (choose (Form.isAbsent s at) (next s) (skip exprSort) at)) (next s (choose (Form.isAbsent s at) (next s) (skip exprSort) at)))
     unfolding skipField skipTimes skipPair skipItem
     write-values at p e =
         let a = head (optional expr) (nonEmpty₂ expr flag ∷ []) at p e in
-        let q = Form.choose (Form.isAbsent s at) (next s) (skip exprSort) at in
+        let q = choose (Form.isAbsent s at) (next s) (skip exprSort) at in
         let b = head (nonEmpty₂ expr flag) [] q p (a .rest) in
         some-items _ _ (payloadAt s q) (next s q) (listed-some child skip (node-lands s t line left) expr flag q (b .first .behind) (b .first .goes) .0)
 
@@ -444,8 +446,8 @@ module _ (s t : List ℕ) (line : Line) where
         m = skipList s (skip stmtSort) (skip exprSort at)
 
         go : (b : Bool) → FormedStmts (stmtsAt s (stmtAt s left) (skip stmtSort) (payloadAt s (skip exprSort at)) (next s (skip exprSort at))) → (u : ℕ)
-            → Form.choose b (Form.absentForm s) (Form.listForm s t line (Form.pairForm s t line child stmt Nothing)) m ≡ Behind u
-            → FormedStmt (Form.choose b (λ q. ifThen r (exprAt s left at) (stmtsAt s (stmtAt s left) (skip stmtSort) (payloadAt s (skip exprSort at)) (next s (skip exprSort at))))
+            → choose b (Form.absentForm s) (Form.listForm s t line (Form.pairForm s t line child stmt Nothing)) m ≡ Behind u
+            → FormedStmt (choose b (λ q. ifThen r (exprAt s left at) (stmtsAt s (stmtAt s left) (skip stmtSort) (payloadAt s (skip exprSort at)) (next s (skip exprSort at))))
             (λ q. ifElse r (exprAt s left at) (stmtsAt s (stmtAt s left) (skip stmtSort) (payloadAt s (skip exprSort at)) (next s (skip exprSort at))) (stmtsAt s (stmtAt s left) (skip stmtSort) (payloadAt s q) (next s q))) m)
         go true x u h = x
         go false x u h = (x, stmts-of (payloadAt s m) (next s m) u (list-items child skip (node-lands s t line left) (Form.pairForm s t line child stmt Nothing) m u h))
@@ -506,7 +508,7 @@ module _ (s t : List ℕ) where
       let f = Form.nodeForm s t line 64 stmtSort in
       let u = then-first _ (Form.lineHead s t base at) (λ p. Form.then (Form.labelForm s line p) (λ q. Form.listForm s t line f q)) p refl e in
       let h = goes-on (Form.takeWord s 16 4096 at) (λ p. pick (leb (base + payloadAt s at) (length t)) (Behind p) (Stops (BadLength at))) (next s at) (u .0) (word-lands s 16 4096 at) (u .1) in
-      let z : u .0 ≡ next s at = passes (leb (base + payloadAt s at) (length t)) (next s at) (u .0) (BadLength at) (h .1) .1 in
+      let z : u .0 ≡ next s at = sym (pick-behind (leb (base + payloadAt s at) (length t)) (next s at) (u .0) (BadLength at) (h .1) .1) in
       let m = behindLabel s (next s at) in
       let w = goes-on (Form.labelForm s line (next s at)) (λ q. Form.listForm s t line f q) m p (label-lands line (next s at)) (rw z at (u .2)) .1 in
       let lands = node-lands s t line 64 in (

@@ -5,19 +5,20 @@ use mathlib.Core.Bool.{Bool, true, false}
 use Prim.Native.Nat.{ℕ, suc}
 use lib.Dec.{eqb}
 use native.Mathlib.Omega.{arith}
-use Rattle.recorder.specs.Word.{pick, kindAt, payloadAt, next}
+use Rattle.recorder.specs.Word.{pick, kindAt, payloadAt, next, both}
+use Rattle.recorder.proofs.Bools.{both-right}
 use Rattle.sheet.specs.declared.form.Sort.{Sort}
 use Rattle.sheet.specs.declared.form.Offence.{Offence}
 use Rattle.sheet.specs.declared.form.Offence.the-variants.{BadWord, Fseek}
 use Rattle.sheet.specs.declared.form.Walk.{Walk}
 use Rattle.sheet.specs.declared.form.Walk.the-variants.{Behind, Stops}
 use Rattle.sheet.specs.declared.form.Line.{Line}
-use Rattle.sheet.specs.Table.{both, ownRange, fieldsOf, mayStand, isFseek, nodeKind}
+use Rattle.sheet.specs.Table.{ownRange, fieldsOf, mayStand, isFseek, nodeKind}
 use Rattle.sheet.specs.Form
 use Rattle.sheet.specs.Skip.{skipNode}
-use Rattle.sheet.proofs.Lines.{then-first}
-use Rattle.sheet.proofs.Accepted.{Lands, lands-at, lands-never, lands-pick, word-lands, head-lands, own-lands, node-lands}
-use Rattle.rules.proofs.BoolLaws.{both-right}
+use Rattle.sheet.proofs.Walks.{pick-behind}
+use Rattle.walk.proofs.Lines.{then-first}
+use Rattle.walk.proofs.Accepted.{Lands, lands-at, lands-never, lands-pick, word-lands, head-lands, own-lands, node-lands}
 
 -- a walk in two parts, whose first ends at x
 pub goes-on : (w : Walk) (f : ℕ → Walk) (x p : ℕ) → Lands w x → Form.then w f ≡ Behind p → (w ≡ Behind x) × (f x ≡ Behind p)
@@ -25,11 +26,6 @@ goes-on w f x p a e =
     let u = then-first (Form.then w f) w f p refl e in
     let z : u .0 ≡ x = a .ends (u .0) (u .1) in
     (rw z at (u .1), rw z at (u .2))
-
--- a test that let the walk go on
-pub passes : (b : Bool) (q p : ℕ) (o : Offence) → pick b (Behind q) (Stops o) ≡ Behind p → (b ≡ true) × (p ≡ q)
-passes true q p o e = (refl, cc)
-passes false q p o e = let y : _≡_ {A = ℕ} 0 1 = cc in absurd (omega arith)
 
 refuses : (b : Bool) (q p : ℕ) (o : Offence) → pick b (Stops o) (Behind q) ≡ Behind p → b ≡ false
 refuses true q p o e = let y : _≡_ {A = ℕ} 0 1 = cc in absurd (omega arith)
@@ -55,4 +51,4 @@ module _ (s : List ℕ) where
         let u = goes-on (Form.headForm s c at) _ q p (head-lands s c at) e in
         let v = goes-on (Form.fseekForm s c at q) _ q p (lands-pick (isFseek c k) _ _ _ (lands-never (Fseek at) q) (lands-at q)) (u .1) in
         let w = goes-on (Form.itemForm s t line child (ownRange c k) q) _ (next s q) p (own-lands s t line child (skipNode s left) (node-lands s t line left) c k q) (v .1) in
-        record { stands = both-right (eqb (kindAt s at) (nodeKind c)) (mayStand c k) (passes (both (eqb (kindAt s at) (nodeKind c)) (mayStand c k)) q q (BadWord at) (u .0) .0); fields = w .1 }
+        record { stands = both-right (eqb (kindAt s at) (nodeKind c)) (mayStand c k) (pick-behind (both (eqb (kindAt s at) (nodeKind c)) (mayStand c k)) q q (BadWord at) (u .0) .0); fields = w .1 }

@@ -2,19 +2,19 @@
 use mathlib.Core.Path.{_≡_, refl}
 use mathlib.Core.List.{List}
 use mathlib.Core.Bool.{Bool, true, false}
-use Prim.Native.Nat.{ℕ, zero, suc}
+use Prim.Native.Nat.{ℕ, zero, suc, _-_}
 use lib.Dec.{ltb, eqb}
-use lib.ListN.{length}
+use lib.ListN.{length, getD}
 use Rattle.recorder.specs.Word.{pick, either}
 use Rattle.recorder.specs.declared.word.Range.{Range}
 use Rattle.recorder.specs.Recorder.{Recorder, Named}
-use Rattle.recorder.proofs.Hide.{numbered, twice, fresh}
-use Rattle.recorder.proofs.Simulation.{Simulation}
+use Rattle.simulation.proofs.Hide.{numbered, twice, fresh}
+use Rattle.simulation.proofs.Simulation.{Sigil, Simulation}
 use Rattle.sheet.specs.Tree.{Opt, absent, given, Expr, ident, stringLit, numberLit, sysFuncCall, userFuncCall, binary, unary, index, inkey, error, Exprs, none, more, exprRange, count}
 use Rattle.rules.specs.declared.types.«Type».{«Type» as Ty}
-use Rattle.rules.specs.declared.types.«Type».the-variants.{Real}
-use Rattle.rules.specs.Types.{matchesType, exactMatches}
-use Rattle.rules.specs.Name.{readName}
+use Rattle.rules.specs.declared.types.«Type».the-variants.{Integer, Real, String, Error}
+use Rattle.rules.specs.Types.{matchesType, exactMatches, sigilUnit, sigilType}
+use Rattle.rules.specs.Name.{textPlace, readName}
 use Rattle.rules.specs.Tables.{Signature, signatureOf, tab, spc, wanted, everyReal}
 use Rattle.rules.specs.Expr.{Out, out, Sym, textSize, quotedLength, isText, compileSym, checkType, checkReal, realSym, varNode, textNode, numberNode, arityNotes, funcNotes, funcNode, funcName, userCall, likeNode, arithNode, binaryNode, unaryNode, indexNode, compileExpr, compileArgs, compileTyped, indexPlace, compileLvalue}
 
@@ -97,14 +97,25 @@ module _ {S T : Type 0} {R : Recorder S} {Q : Recorder T} {σ : Simulation R Q} 
   pub place-then : {u u′ : T} {s : S} {x y : ℕ} → σ .Place u x y → Goes σ u s u′ → σ .Place u′ x y
   place-then p g = σ .place-later _ _ _ _ (g .later) p
 
+-- a name's sigil is none, $ or %
+unit-sigil : (x : Ty) → Sigil (sigilUnit x)
+unit-sigil Integer = refl
+unit-sigil Real = refl
+unit-sigil String = refl
+unit-sigil Error = refl
+
+name-sigil : (t : List ℕ) (base : ℕ) (r : Range) → Sigil (readName t base r .sigil)
+unfolding readName
+name-sigil t base r = unit-sigil (sigilType (getD t (textPlace base (r .end) - 1) 0))
+
 module _ {S T : Type 0} {R : Recorder S} {Q : Recorder T} (σ : Simulation R Q) (t : List ℕ) (base : ℕ) where
   pub sim-sym : {w u : T} {s : S} (r : Range) → Goes σ w s u → GoesSym σ w (compileSym R t base r s) (compileSym Q t base r u)
   unfolding compileSym
   sim-sym r g =
       let h = pick-goes (ltb 0 (readName t base r .lost)) (noted g) g in
       record {
-        goes = record { sim = σ .symbol _ _ _ _ _ (h .sim); later = σ .later-trans _ _ _ (h .later) (σ .symbol-later _ _ _ _) };
-        number = σ .symbol-number _ _ _ _ _ (h .sim);
+        goes = record { sim = σ .symbol _ _ _ _ _ (name-sigil t base r) (h .sim); later = σ .later-trans _ _ _ (h .later) (σ .symbol-later _ _ _ _) };
+        number = σ .symbol-number _ _ _ _ _ (name-sigil t base r) (h .sim);
         ty = refl;
       }
 

@@ -12,9 +12,9 @@ use Rattle.recorder.specs.Word.{pick, either}
 use Rattle.recorder.specs.Ideal.{Ideal}
 use Rattle.recorder.specs.Layout.{noteSize, entrySize}
 use Rattle.recorder.specs.Mem.{Mem, memR, listRoom}
-use Rattle.recorder.proofs.Sim.{Held, held-count, held-full, Room}
-use Rattle.recorder.proofs.Clean.{Done}
-use Rattle.recorder.proofs.Memory.{sim-start, memory-simulates}
+use Rattle.simulation.proofs.Sim.{Held, held-count, held-full, Room}
+use Rattle.simulation.proofs.Clean.{Done}
+use Rattle.simulation.proofs.Memory.{sim-start, memory-simulates}
 use Rattle.sheet.specs.Tree.{programAt}
 use Rattle.rules.specs.Program.{closeUp}
 use Rattle.rules.specs.Outcome.{Lengths, refused, accepted, compiled, finished, sized}
@@ -42,9 +42,9 @@ held-sized L i n m₁ m₂ h e d = go (either (m₁ .st .lfull) (leb (listRoom (
         → pick (m₂ .st .nfull) (refused 10 0 L) (pick (m₂ .st .bfull) (refused 11 0 L) (heldAccepted L m₂))
         ≡ pick (ltb (L .notes / noteSize) (length (i .notes))) (refused 10 0 L) (pick (ltb (L .book / entrySize) (length (i .entries))) (refused 11 0 L) (accepted i L))
     fits q true b x y = rw (x, sym (q .noted .held .flag) ∙ x) refl
-    fits q false true x y = rw (x, y, sym (q .noted .held .flag) ∙ x, sym (q .booked .exact .held .flag) ∙ y) refl
-    fits q false false x y = rw (x, y, sym (q .noted .held .flag) ∙ x, sym (q .booked .exact .held .flag) ∙ y)
-        (rw (q .count, held-count (q .noted .held) x, held-count (q .booked .exact .held) y, q .list-is y, q .noted .same x, q .booked .exact .same y) refl)
+    fits q false true x y = rw (x, y, sym (q .noted .held .flag) ∙ x, sym (q .booked .held .flag) ∙ y) refl
+    fits q false false x y = rw (x, y, sym (q .noted .held .flag) ∙ x, sym (q .booked .held .flag) ∙ y)
+        (rw (q .count, held-count (q .noted .held) x, held-count (q .booked .held) y, q .list-is y, q .noted .same x, q .booked .same y) refl)
 
     go : (b : Bool) → either (m₁ .st .lfull) (leb (listRoom (L .list)) (m₁ .st .records)) ≡ b → heldOutcome L m₁ m₂ ≡ sized i L
     go true x = rw (x, sym (held-tight (length (i .records)) h e) ∙ x) refl
@@ -58,6 +58,6 @@ pub held-outcome : (s t : List ℕ) (L : Lengths) → heldOutcome L (heldLines s
 unfolding compiled finished
 held-outcome s t L =
     let σ = memory-simulates (L .list) (L .notes) (L .book) t in
-    let m = sim-start (L .list) (L .notes) (L .book) in
+    let m = sim-start t (L .list) (L .notes) (L .book) in
     held-sized L (finished s t) (length (compiled s t .state .records)) (heldLines s t L .state) (closeUp (memR t) (heldLines s t L))
     (sim-lines σ t (programAt s) (sim-first σ t m) .goes .sim .listed .held) (closed-length t (compiled s t)) (sim-program σ t (programAt s) m)

@@ -10,12 +10,13 @@ use Rattle.recorder.specs.Word.{pick, both, either}
 use Rattle.recorder.specs.Recorder.{Recorder, Look}
 use Rattle.recorder.specs.Ideal.{Search, missing, found}
 use Rattle.recorder.specs.Marks.{Mark, orElse, addrOf, datumOf, dataOf}
-use Rattle.recorder.proofs.Hide.{twice}
-use Rattle.recorder.proofs.Simulation.{Simulation, Looks}
+use Rattle.recorder.proofs.Bools.{both-false}
+use Rattle.recorder.proofs.Bools.{both-right}
+use Rattle.simulation.proofs.Hide.{twice}
+use Rattle.simulation.proofs.Simulation.{Simulation, Looks}
 use Rattle.sheet.specs.Tree.{Opt, absent, given, Stmts, Labelled, ProgramLine}
 use Rattle.rules.specs.Stmt.{compileStmts}
 use Rattle.rules.specs.Program.{Lines, marked, isPendingJump, isPendingRestore, labelNote, lineBegun, lineDone, compileLine, compileLines, firstLine, settleBy, settleJump, settleRestore, resolveLabels, resolveDatumIndices, closeUp}
-use Rattle.rules.proofs.BoolLaws.{both-right}
 use Rattle.rules.proofs.SimExpr.{Goes, begin, start, over, noted, pick-goes, place-then}
 use Rattle.rules.proofs.SimStmt.{sim-stmts}
 
@@ -40,10 +41,6 @@ before : ℕ → ℕ
 before zero = zero
 before (suc n) = n
 
-both-no : (a : Bool) → both a false ≡ false
-both-no true = refl
-both-no false = refl
-
 -- what resolution reads is the same on both sides: the calls with two numbers are not among those that wait
 one-or-other : (P : ℕ → Type 0) (k l c : ℕ) → P k → P l → either (eqb c k) (eqb c l) ≡ true → P c
 one-or-other P k l c p q e = go (eqb c k) refl
@@ -63,7 +60,7 @@ jump-pending x y l = go (isJump (x .call)) refl
   where
     go : (i : Bool) → isJump (x .call) ≡ i → isPendingJump x ≡ isPendingJump y
     go true e = rw (jump-label x y l e, l .call)
-    go false e = rw (← l .call, e, both-no (ltb 0 (x .b)), both-no (ltb 0 (y .b)))
+    go false e = rw (← l .call, e, both-false (ltb 0 (x .b)), both-false (ltb 0 (y .b)))
 
 restore-label : (x y : Look) → Looks x y → eqb (x .call) 31 ≡ true → x .b ≡ y .b
 restore-label x y l e = l .b (rw (eqb-true (x .call) 31 e))
@@ -73,7 +70,7 @@ restore-pending x y l = go (eqb (x .call) 31) refl
   where
     go : (i : Bool) → eqb (x .call) 31 ≡ i → isPendingRestore x ≡ isPendingRestore y
     go true e = rw (restore-label x y l e, l .call)
-    go false e = rw (← l .call, e, both-no (ltb 0 (x .b)), both-no (ltb 0 (y .b)))
+    go false e = rw (← l .call, e, both-false (ltb 0 (x .b)), both-false (ltb 0 (y .b)))
 
 -- all of closing up but clean_up
 abbrev pub resolved : {S : Type 0} → Recorder S → Lines S → S
@@ -131,10 +128,6 @@ module _ {S T : Type 0} {R : Recorder S} {Q : Recorder T} (σ : Simulation R Q) 
   sim-addr l (one-mark h t) = or-else (sim-addr l t) (same-label l (h .label) (each (h .addr)))
 
   -- where all records fit they find the same
-  pub same-addr : {u : T} {a b : Search} → σ .Fits u → Alike (σ .Place u) a b → a ≡ b
-  same-addr f no-one = refl
-  same-addr f (each p) = rw (σ .place-is _ _ _ f p)
-
   datum-alike : {u : T} (x y : ℕ) → σ .Number u x y → eqb x 0 ≡ eqb y 0 → Alike (σ .Number u) (datumOf x) (datumOf y)
   unfolding before
   datum-alike zero zero n e = no-one

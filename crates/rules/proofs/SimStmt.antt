@@ -8,8 +8,8 @@ use lib.ListN.{length}
 use Rattle.recorder.specs.Word.{pick, both, either}
 use Rattle.recorder.specs.declared.word.Range.{Range}
 use Rattle.recorder.specs.Recorder.{Recorder, unknown}
-use Rattle.recorder.proofs.Hide.{fresh}
-use Rattle.recorder.proofs.Simulation.{Simulation}
+use Rattle.simulation.proofs.Hide.{fresh}
+use Rattle.simulation.proofs.Simulation.{Simulation}
 use Rattle.sheet.specs.Tree.{Opt, absent, given, Expr, ident, stringLit, numberLit, sysFuncCall, userFuncCall, binary, unary, index, inkey, error, Exprs, none, more, exprRange, count, Datum, FieldSpec, Target, OnTarget, Len, WriteElement, PrintElement, value, comma, semicolon, InputSource, keyboard, file, Stmt, rem, op₀, op₁, op₂, op₃, draw, set, dataList, def, dim, field, for, go, ifThen, ifElse, input, assign, load, locate, next-of, on, open-file, print, read, restore, swap, system, while, write, Stmts, end, then}
 use Rattle.rules.specs.declared.types.«Type».{«Type» as Ty}
 use Rattle.rules.specs.declared.types.«Type».the-variants.{Integer, Real, String, Error}

@@ -1,39 +1,21 @@
 -- The code's tables are those of the rules.
-use mathlib.Core.Path.{_≡_, refl, sym, ap, _∙_}
-use mathlib.Core.List.{List, [], _∷_, map}
-use mathlib.Core.Bool.{Bool, true, false}
-use Prim.Native.Nat.{ℕ, zero, suc, _<_, _≤_}
-use lib.Dec.{ltb, eqb}
-use lib.ListN.{getD, length, List·getD-map, List·getD-eq-default}
-use borrow.Author.Tests.{lt-ltb, le-ltb, eq-eqb, ne-eqb}
+use mathlib.Core.Path.{_≡_, refl, sym}
+use mathlib.Core.List.{[], _∷_}
+use Prim.Native.Nat.{ℕ, zero, suc}
+use lib.ListN.{List·getD-eq-default}
+use borrow.Author.Tests.{le-ltb, ne-eqb}
 use native.Mathlib.Omega.{arith}
-use Rattle.recorder.specs.Word.{pick}
+use Rattle.sheet.proofs.Rows.{NoneBelow, none-below}
 use Rattle.rules.specs.declared.types.«Type».{«Type» as Ty}
-use Rattle.rules.specs.declared.types.«Type».the-variants.{Integer, Real, String, Error}
+use Rattle.rules.specs.declared.types.«Type».the-variants.{Real, String}
 use Rattle.rules.specs.declared.tables.Sig.{Sig}
 use Rattle.rules.specs.declared.tables.Sig.the-variants.{RealOfReal}
-use Rattle.rules.specs.Tables.{Signature, signatureOf, signatureFor, sigBy, wanted, realsBelow, textThenReals}
+use Rattle.rules.specs.Tables.{signatures, realOfReal, signatureOf, signatureFor, wanted, realsBelow, textThenReals}
 
--- the numbers of the code's table
-abbrev pub codes : List ℕ
-codes =
-    0 ∷ 1 ∷ 0 ∷ 2 ∷ 0 ∷ 1 ∷ 1 ∷ 0 ∷ 0 ∷ 0 ∷ 3 ∷ 1 ∷ 0 ∷ 0 ∷ 4 ∷ 2 ∷ 2 ∷ 0 ∷ 0 ∷ 3 ∷ 0 ∷ 0 ∷ 0 ∷ 0 ∷ 2 ∷ 0 ∷ 1 ∷ 0 ∷ 0 ∷ 5 ∷ 0 ∷ 0 ∷ 0
-    ∷ 0 ∷ []
-
-abbrev pub coded : ℕ → Signature
-coded n = signatureFor (sigBy n)
-
--- the rule of the table, computed over the whole of it
-pub code-rule : (k : ℕ) → coded (getD codes k 0) ≡ signatureOf k
+-- behind the table
+pub sig-out : (k : ℕ) → NoneBelow k 34 → signatureFor RealOfReal ≡ signatureOf k
 unfolding signatureOf
-code-rule k = sym (List·getD-map coded codes k 0)
-
--- within the table, and behind it
-pub sig-in : (k n : ℕ) (s : Sig) → n ≡ getD codes k 0 → s ≡ sigBy n → signatureFor s ≡ signatureOf k
-sig-in k n s e f = rw (f, e) (code-rule k)
-
-pub sig-out : (k : ℕ) → 34 ≤ k → signatureFor RealOfReal ≡ signatureOf k
-sig-out k h = let e : getD codes k 0 ≡ 0 = List·getD-eq-default codes 0 h in rw e at (code-rule k)
+sig-out k h = sym (List·getD-eq-default signatures realOfReal (none-below 34 k h))
 
 -- kinds of arguments by their place
 pub reals-1 : (i : ℕ) → realsBelow i 1 ≡ wanted (Real ∷ []) i

@@ -14,10 +14,11 @@ use Rattle.recorder.specs.Ideal.{Rec, rec, noRec, Ideal, change, withA, lookOf,
 use Rattle.recorder.specs.Marks.{addrOf, dataOf}
 use Rattle.recorder.specs.Closing.{rulesR, isWhile, endFrom, endAt, closeWhiles, recAt, isStart, isEnd, isOne, isFor, isNextOf, isDelay, isSteppedDelay, noOp, sleep, roundUp, wholeEnd, delayed, steppedDelayed, delayFrom, delays, endRec, cleanUp}
 use Rattle.recorder.proofs.Words.{change-length}
+use Rattle.recorder.proofs.Bools.{both-left, both-right}
 use Rattle.rules.specs.Program.{Lines, isPendingJump, isPendingRestore, resolveLabels, resolveDatumIndices, closeUp}
 use Rattle.rules.specs.Missing.{WriteCall, writeCall}
 use Rattle.rules.specs.Writes.{isWriteCall, writeCalls, recordsFrom}
-use Rattle.rules.proofs.BoolLaws.{both-left, both-right, either-of}
+use Rattle.rules.proofs.BoolLaws.{either-of}
 use Rattle.rules.proofs.ClosingPiles.{each, settleRec, jumpTo, restoreTo}
 use Rattle.rules.proofs.DelayPiles.{start-call, one-call, end-call, for-call, next-call}
 use Rattle.rules.proofs.ProgramPiles.{v-records}

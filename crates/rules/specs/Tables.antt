@@ -123,14 +123,6 @@ signatureFor TextPart = textPart
 signatureFor Mid = signature 2 (String ∷ Real ∷ Real ∷ []) String
 signatureFor Point = signature 2 (Real ∷ Real ∷ []) Real
 
-abbrev pub sigBy : ℕ → Sig
-sigBy n =
-    pick (eqb n 1) RealOfText
-    (pick (eqb n 2) TextOfReal
-    (pick (eqb n 3) TextPart
-    (pick (eqb n 4) Mid
-    (pick (eqb n 5) Point RealOfReal))))
-
 abbrev pub wantedBy : Wants → ℕ → Ty
 wantedBy (Func k) = wanted (signatureOf k .args)
 wantedBy Every = everyReal

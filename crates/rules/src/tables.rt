@@ -2,7 +2,7 @@
 use crate::types::Type;
 ghost use mathlib.Core.Path.{_≡_};
 ghost use lib.ListN.{length};
-ghost use Rattle.rules.specs.Tables.{signatureFor, sigBy, signatureOf, wanted, drawArity, drawn, operand, wantedBy, textThenReals, realsBelow};
+ghost use Rattle.rules.specs.Tables.{signatureFor, signatureOf, wanted, drawArity, drawn, operand, wantedBy, textThenReals, realsBelow};
 
 // The signatures that functions have.
 pub enum Sig {
@@ -21,65 +21,46 @@ pub enum Wants {
     Draw(u32),
 }
 
-// By the place in SysFuncKind: 0 RealOfReal, 1 RealOfText, 2 TextOfReal, 3 TextPart, 4 Mid, 5 Point.
-const SIGNATURES: [u8; 34] = [
-    0,
-    1,
-    0,
-    2,
-    0,
-    1,
-    1,
-    0,
-    0,
-    0,
-    3,
-    1,
-    0,
-    0,
-    4,
-    2,
-    2,
-    0,
-    0,
-    3,
-    0,
-    0,
-    0,
-    0,
-    2,
-    0,
-    1,
-    0,
-    0,
-    5,
-    0,
-    0,
-    0,
-    0,
-];
-
-fn sig_by(n: u8) -> Sig
-    ensures { λ r. ⌜ r ≡ sigBy n ⌝ }
-{
-    match n {
-        1 => Sig::RealOfText,
-        2 => Sig::TextOfReal,
-        3 => Sig::TextPart,
-        4 => Sig::Mid,
-        5 => Sig::Point,
-        _ => Sig::RealOfReal,
-    }
-}
-
+// By the place in SysFuncKind.
 pub fn sig_of(k: u32) -> Sig
     ensures { λ r. ⌜ signatureFor r ≡ signatureOf k ⌝ }
 {
-    if k < 34 {
-        let i = k as usize;
-        sig_by(SIGNATURES[i])
-    } else {
-        Sig::RealOfReal
+    match k {
+        0 => Sig::RealOfReal,
+        1 => Sig::RealOfText,
+        2 => Sig::RealOfReal,
+        3 => Sig::TextOfReal,
+        4 => Sig::RealOfReal,
+        5 => Sig::RealOfText,
+        6 => Sig::RealOfText,
+        7 => Sig::RealOfReal,
+        8 => Sig::RealOfReal,
+        9 => Sig::RealOfReal,
+        10 => Sig::TextPart,
+        11 => Sig::RealOfText,
+        12 => Sig::RealOfReal,
+        13 => Sig::RealOfReal,
+        14 => Sig::Mid,
+        15 => Sig::TextOfReal,
+        16 => Sig::TextOfReal,
+        17 => Sig::RealOfReal,
+        18 => Sig::RealOfReal,
+        19 => Sig::TextPart,
+        20 => Sig::RealOfReal,
+        21 => Sig::RealOfReal,
+        22 => Sig::RealOfReal,
+        23 => Sig::RealOfReal,
+        24 => Sig::TextOfReal,
+        25 => Sig::RealOfReal,
+        26 => Sig::RealOfText,
+        27 => Sig::RealOfReal,
+        28 => Sig::RealOfReal,
+        29 => Sig::Point,
+        30 => Sig::RealOfReal,
+        31 => Sig::RealOfReal,
+        32 => Sig::RealOfReal,
+        33 => Sig::RealOfReal,
+        _ => Sig::RealOfReal,
     }
 }
 

@@ -1,11 +1,2 @@
 pub mod Walks
 pub mod Rows
-pub mod Steps
-pub mod Cycle
-pub mod Lines
-pub mod Skips
-pub mod Within
-pub mod LinesFit
-pub mod Accepted
-pub mod Depth
-pub mod Local

@@ -1,4 +1,5 @@
 -- The tables of the code are the table of the form.
+use Prim.{Unit, tt}
 use mathlib.Core.Path.{_≡_, refl, sym, ap, _∙_}
 use mathlib.Core.Bool.{Bool, true, false}
 use mathlib.Core.List.{List, [], _∷_, _++_}
@@ -21,8 +22,17 @@ pub field-same : (t t′ : Times) (a a′ b b′ : Item) → t ≡ t′ → a �
     → _≡_ {A = Field} (record { times = t; first = a; second = b }) (record { times = t′; first = a′; second = b′ })
 field-same t t′ a a′ b b′ e f g = rw (e, f, g)
 
-pub field-outside : (i : ℕ) (f : Field) → 99 ≤ i → f ≡ fieldOf 0 → f ≡ fieldOf (getD fieldNumbers i 0)
-field-outside i f h e = rw (List·getD-eq-default fieldNumbers 0 h) e
+-- i is none of the numbers below n: what a `match` with an arm for each of them says at `_`
+abbrev pub NoneBelow : ℕ → ℕ → Type 0
+NoneBelow i zero = Unit {0}
+NoneBelow i (suc n) = NoneBelow i n × (i ≡ n → ⊥)
+
+pub none-below : (n i : ℕ) → NoneBelow i n → n ≤ i
+none-below zero i h = omega arith
+none-below (suc n) i h = let k : n ≤ i = none-below n i (h .0) in let m : i ≡ n → ⊥ = h .1 in omega (arith, k, m)
+
+pub outside : (l : List ℕ) (i : ℕ) → NoneBelow i (length l) → 0 ≡ getD l i 0
+outside l i h = sym (List·getD-eq-default l 0 (none-below (length l) i h))
 
 pub start-outside : (m : ℕ) → 84 ≤ m → 0 ≡ getD fieldStarts m 0
 start-outside m h = sym (List·getD-eq-default fieldStarts 0 h)

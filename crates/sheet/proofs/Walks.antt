@@ -7,16 +7,15 @@ use native.Mathlib.Omega.{arith}
 use borrow.Author.Tests.{lt-ltb, le-ltb, eq-eqb, ne-eqb, le-leb, lt-leb}
 use lib.Dec.{ltb, leb, eqb}
 use lib.ListN.{length, getD, List·getD-eq-default}
-use Rattle.recorder.specs.Word.{pick, next}
+use Rattle.recorder.specs.Word.{pick, choose, both, either, next}
 use Rattle.sheet.specs.declared.form.Offence.{Offence}
 use Rattle.sheet.specs.declared.form.Walk.{Walk}
 use Rattle.sheet.specs.declared.form.Walk.the-variants.{Behind, Stops}
-use Rattle.sheet.specs.Table.{both, either}
 use Rattle.recorder.specs.declared.word.Range.{Range}
 use Rattle.sheet.specs.declared.form.Marked.{Marked}
 use Rattle.sheet.specs.declared.form.Marked.the-variants.{Labelled, Absent}
 use Rattle.sheet.specs.Parts.{lacksUnit, markedAt}
-use Rattle.sheet.specs.Form.{then, choose, isAbsent, between, isLetter, isAlnum, isSigil, nameTail, isName, highForm, lowForm}
+use Rattle.sheet.specs.Form.{then, isAbsent, between, isLetter, isAlnum, isSigil, nameTail, isName, highForm, lowForm}
 
 -- a walk that offends ends what goes on behind it
 pub then-stop : (w x : Walk) (o : Offence) (f : ℕ → Walk) → w ≡ x → w ≡ Stops o → w ≡ then x f
@@ -25,6 +24,11 @@ then-stop w x o f e h = rw (← e, h)
 -- a walk that ends at p goes on at p
 pub then-go : (w x y : Walk) (p : ℕ) (f : ℕ → Walk) → w ≡ x → w ≡ Behind p → y ≡ f p → y ≡ then x f
 then-go w x y p f e h g = rw (← e, h) g
+
+-- a test that let the walk go on
+pub pick-behind : (b : Bool) (p q : ℕ) (o : Offence) → pick b (Behind p) (Stops o) ≡ Behind q → (b ≡ true) × (p ≡ q)
+pick-behind true p q o e = (refl, cc)
+pick-behind false p q o e = let z : _≡_ {A = ℕ} 0 1 = cc in absurd (omega arith)
 
 -- a test that a function answered, and what the answer was
 pub told : (f a x : Bool) → f ≡ a → f ≡ x → a ≡ x

@@ -4,14 +4,13 @@ use mathlib.Core.Bool.{Bool, true, false}
 use Prim.Native.Nat.{ℕ}
 use lib.Dec.{ltb}
 use lib.ListN.{length}
-use Rattle.recorder.specs.Word.{pick}
+use Rattle.recorder.specs.Word.{pick, either}
 use Rattle.sheet.specs.declared.form.Offence.{Offence}
 use Rattle.sheet.specs.declared.form.Offence.the-variants.{BadWord, TooDeep, BadLength, BadRange, Fseek}
 use Rattle.sheet.specs.declared.form.Walk.{Walk}
 use Rattle.sheet.specs.declared.form.Walk.the-variants.{Behind, Stops}
 use Rattle.sheet.specs.declared.form.Checked.{Checked}
 use Rattle.sheet.specs.declared.form.Checked.the-variants.{Accepted, TooLong, Surrogate, WorkTooShort, Offends}
-use Rattle.sheet.specs.Table.{either}
 use Rattle.sheet.specs.Form.{between, sheetForm}
 
 -- 2: "A text unit from hexadecimal D800 to DFFF."

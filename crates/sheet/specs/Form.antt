@@ -4,7 +4,7 @@ use mathlib.Core.Bool.{Bool, true, false}
 use Prim.Native.Nat.{ℕ, zero, suc, _+_, _-_}
 use lib.Dec.{ltb, leb, eqb}
 use lib.ListN.{length, getD}
-use Rattle.recorder.specs.Word.{pick, kindAt, payloadAt, next, rangeAt}
+use Rattle.recorder.specs.Word.{pick, choose, both, either, kindAt, payloadAt, next, rangeAt}
 use Rattle.recorder.specs.declared.word.Range.{Range}
 use Rattle.sheet.specs.declared.form.Item.{Item}
 use Rattle.sheet.specs.declared.form.Item.the-variants.{Nothing, Word, Range as range, Name as name, OptionalName as optionalName, Text as text, Node, Number as number, OptionalLabel as optionalLabel, Source as source, Element as element, Datum as datum}
@@ -18,17 +18,12 @@ use Rattle.sheet.specs.declared.form.Offence.the-variants.{BadWord, TooD
 use Rattle.sheet.specs.declared.form.Walk.{Walk}
 use Rattle.sheet.specs.declared.form.Walk.the-variants.{Behind, Stops}
 use Rattle.sheet.specs.declared.form.Line.{Line}
-use Rattle.sheet.specs.Table.{nodeKind, mayStand, ownRange, fieldsOf, isFseek, both, either}
+use Rattle.sheet.specs.Table.{nodeKind, mayStand, ownRange, fieldsOf, isFseek}
 
 -- go on behind what was read, unless it offends
 abbrev pub then : Walk → (ℕ → Walk) → Walk
 then (Behind p) f = f p
 then (Stops o) f = Stops o
-
--- one of two readers, at a place
-abbrev pub choose {ℓ} : {A : Type ℓ} → Bool → (ℕ → A) → (ℕ → A) → ℕ → A
-choose true f g p = f p
-choose false f g p = g p
 
 abbrev pub between : ℕ → ℕ → ℕ → Bool
 between a u b = both (leb a u) (leb u b)

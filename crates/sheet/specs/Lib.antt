@@ -4,3 +4,4 @@ pub mod Parts
 pub mod Check
 pub mod Skip
 pub mod Tree
+pub mod Reach

@@ -4,7 +4,7 @@ use mathlib.Core.Bool.{Bool, true, false}
 use Prim.Native.Nat.{ℕ, zero, suc, _+_, _-_, _/_, _%_}
 use lib.Dec.{ltb, leb, eqb}
 use lib.ListN.{getD}
-use Rattle.recorder.specs.Word.{pick}
+use Rattle.recorder.specs.Word.{pick, both, either}
 use Rattle.recorder.specs.declared.word.Range.{Range}
 use Rattle.sheet.specs.declared.form.Item.{Item}
 use Rattle.sheet.specs.declared.form.Item.the-variants.{Nothing, Word, Range as range, Name as name, OptionalName as optionalName, Text as text, Node, Number as number, OptionalLabel as optionalLabel, Source as source, Element as element, Datum as datum}
@@ -15,7 +15,7 @@ use Rattle.sheet.specs.declared.form.Times.the-variants.{Once, Optional,
 use Rattle.sheet.specs.declared.form.Field.{Field}
 use Rattle.sheet.specs.declared.form.Marked.{Marked}
 use Rattle.sheet.specs.declared.form.Marked.the-variants.{Labelled, Absent}
-use Rattle.sheet.specs.Table.{label, flag, mode, sysFunc, binaryOp, unaryOp, expr, place, inputPlace, stmt, both, either}
+use Rattle.sheet.specs.Table.{label, flag, mode, sysFunc, binaryOp, unaryOp, expr, place, inputPlace, stmt}
 use Rattle.sheet.specs.Form.{isAbsent, isSpecial, hasUnit}
 
 -- the item that a number stands for

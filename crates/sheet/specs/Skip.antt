@@ -1,7 +1,7 @@
 -- The place behind a part of the sheet, found by reading its own children.
 use mathlib.Core.List.{List, [], _∷_}
 use Prim.Native.Nat.{ℕ, zero, suc}
-use Rattle.recorder.specs.Word.{payloadAt, next}
+use Rattle.recorder.specs.Word.{choose, payloadAt, next}
 use Rattle.sheet.specs.declared.form.Item.{Item}
 use Rattle.sheet.specs.declared.form.Item.the-variants.{Nothing, Word, Range as range, Name as name, OptionalName as optionalName, Text as text, Node, Number as number, OptionalLabel as optionalLabel, Source as source, Element as element, Datum as datum}
 use Rattle.sheet.specs.declared.form.Sort.{Sort}
@@ -10,7 +10,7 @@ use Rattle.sheet.specs.declared.form.Times.{Times}
 use Rattle.sheet.specs.declared.form.Times.the-variants.{Once, Optional, List as Listed, NonEmpty, OptionalList}
 use Rattle.sheet.specs.declared.form.Field.{Field}
 use Rattle.sheet.specs.Table.{fieldsOf}
-use Rattle.sheet.specs.Form.{choose, isAbsent}
+use Rattle.sheet.specs.Form.{isAbsent}
 
 module _ (s : List ℕ) where
   abbrev pub skipSource : (Sort → ℕ → ℕ) → ℕ → ℕ → ℕ

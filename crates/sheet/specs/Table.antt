@@ -4,6 +4,7 @@ use mathlib.Core.Bool.{Bool, true, false}
 use Prim.Native.Nat.{ℕ, zero, suc}
 use lib.Dec.{ltb, eqb}
 use lib.ListN.{getD}
+use Rattle.recorder.specs.Word.{either}
 use Rattle.sheet.specs.declared.form.Item.{Item}
 use Rattle.sheet.specs.declared.form.Item.the-variants.{Nothing, Word, Range as range, Name as name, OptionalName as optionalName, Text as text, Node, Number as number, OptionalLabel as optionalLabel, Source as source, Element as element, Datum as datum}
 use Rattle.sheet.specs.declared.form.Sort.{Sort}
@@ -166,14 +167,6 @@ exprFields k = getD exprTable k []
 
 unfoldable pub stmtFields : ℕ → List Field
 stmtFields k = getD stmtTable k []
-
-abbrev pub both : Bool → Bool → Bool
-both true b = b
-both false b = false
-
-abbrev pub either : Bool → Bool → Bool
-either true b = true
-either false b = b
 
 -- "20 statement: payload the place of its case in StmtKind, from 0. 21 expression: the place in ExprKind"
 abbrev pub nodeKind : Sort → ℕ

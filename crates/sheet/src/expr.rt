@@ -1,4 +1,4 @@
-// The leaves of the sheet: words, ranges, names, number literals, data, labels. And the place behind an expression.
+// The leaves of the sheet: words, ranges, names, number literals, data, labels.
 use crate::form::Line;
 use crate::form::Marked;
 use crate::form::Offence;
@@ -8,10 +8,9 @@ use recorder::word::Range;
 ghost use mathlib.Core.Path.{_≡_};
 ghost use Prim.Native.Nat.{_+_, _-_};
 ghost use lib.Dec.{eqb};
-ghost use Rattle.sheet.specs.Table.{either};
-ghost use Rattle.sheet.specs.Form.{between, isLetter, isAlnum, isSigil, nameTail, isName, isAbsent, isSpecial, hasUnit, inLine, choose, takeWord, absentForm, nonEmptyForm, highForm, lowForm, numberForm, headForm, rangeForm, textForm, nameForm, datumForm, labelForm};
+ghost use Rattle.recorder.specs.Word.{choose, either};
+ghost use Rattle.sheet.specs.Form.{between, isLetter, isAlnum, isSigil, nameTail, isName, isAbsent, isSpecial, hasUnit, inLine, takeWord, absentForm, nonEmptyForm, highForm, lowForm, numberForm, headForm, rangeForm, textForm, nameForm, datumForm, labelForm};
 ghost use Rattle.sheet.specs.Parts.{markedAt, highFits, lowFits, lacksUnit};
-ghost use Rattle.sheet.specs.Skip.{skipNode};
 
 pub fn within(a: u16, u: u16, b: u16) -> bool
     ensures { λ r. ⌜ r ≡ between a u b ⌝ }
@@ -369,11 +368,4 @@ pub fn label_form(sheet: &[u32], line: Line, at: usize) -> Walk
         return w;
     };
     take_word(sheet, 3, 65536, p)
-}
-
-// The place behind an expression.
-pub fn skip_expr(sheet: &[u32], at: usize, left: usize) -> usize
-    ensures { λ r. ⌜ r ≡ skipNode (now (sheet .entry)) left Sort.Expr at ⌝ }
-{
-    crate::stmt::skip_node(sheet, left, Sort::Expr, at)
 }

@@ -129,20 +129,9 @@ fn set_to_goto(
             left,
             r,
         ),
-        13 => declarations::count::compile_for(
-            sheet,
-            text,
-            list,
-            notes,
-            book,
-            st,
-            base,
-            at,
-            left,
-            r,
-        ),
-        14 => operations::jump::compile_gosub(sheet, list, st, at, r),
-        15 => operations::jump::compile_goto(sheet, list, st, at, r),
+        13 => loops::count::compile_for(sheet, text, list, notes, book, st, base, at, left, r),
+        14 => jumps::jump::compile_gosub(sheet, list, st, at, r),
+        15 => jumps::jump::compile_goto(sheet, list, st, at, r),
         _ => Went { st, at },
     }
 }
@@ -164,19 +153,8 @@ fn input_to_open(
     ensures { λ x. ⌜ (17 ≤ n → n < 24 → Body (now (sheet .entry)) (now (text .entry)) base left (shapeBy n) k r at (mem (now (list .entry)) (now (notes .entry)) (now (book .entry)) st) (mem (now (list .exit)) (now (notes .exit)) (now (book .exit)) (x .st)) (x .at)) ⌝ }
 {
     match n {
-        17 => declarations::input::compile_input(
-            sheet,
-            text,
-            list,
-            notes,
-            book,
-            st,
-            base,
-            at,
-            left,
-            r,
-        ),
-        18 => operations::place::compile_let(sheet, text, list, notes, book, st, base, at, left, r),
+        17 => inputs::input::compile_input(sheet, text, list, notes, book, st, base, at, left, r),
+        18 => places::place::compile_let(sheet, text, list, notes, book, st, base, at, left, r),
         19 => transfers::loads::compile_load(
             sheet,
             text,
@@ -190,20 +168,9 @@ fn input_to_open(
             k,
             r,
         ),
-        20 => operations::place::compile_locate(
-            sheet,
-            text,
-            list,
-            notes,
-            book,
-            st,
-            base,
-            at,
-            left,
-            r,
-        ),
-        21 => declarations::count::compile_next(sheet, text, list, notes, book, st, base, at, r),
-        22 => operations::jump::compile_on(sheet, text, list, notes, book, st, base, at, left, r),
+        20 => places::place::compile_locate(sheet, text, list, notes, book, st, base, at, left, r),
+        21 => loops::count::compile_next(sheet, text, list, notes, book, st, base, at, r),
+        22 => jumps::jump::compile_on(sheet, text, list, notes, book, st, base, at, left, r),
         23 => transfers::opens::compile_open(
             sheet,
             text,
@@ -238,7 +205,7 @@ fn print_to_write(
     ensures { λ x. ⌜ (24 ≤ n → n < 31 → Body (now (sheet .entry)) (now (text .entry)) base left (shapeBy n) k r at (mem (now (list .entry)) (now (notes .entry)) (now (book .entry)) st) (mem (now (list .exit)) (now (notes .exit)) (now (book .exit)) (x .st)) (x .at)) ⌝ }
 {
     match n {
-        24 => transfers::prints::compile_print(
+        24 => prints::prints::compile_print(
             sheet,
             text,
             list,
@@ -251,34 +218,12 @@ fn print_to_write(
             k,
             r,
         ),
-        25 => operations::place::compile_read(
-            sheet,
-            text,
-            list,
-            notes,
-            book,
-            st,
-            base,
-            at,
-            left,
-            r,
-        ),
-        26 => operations::jump::compile_restore(sheet, list, st, at, r),
-        27 => operations::place::compile_swap(
-            sheet,
-            text,
-            list,
-            notes,
-            book,
-            st,
-            base,
-            at,
-            left,
-            r,
-        ),
+        25 => places::place::compile_read(sheet, text, list, notes, book, st, base, at, left, r),
+        26 => jumps::jump::compile_restore(sheet, list, st, at, r),
+        27 => places::place::compile_swap(sheet, text, list, notes, book, st, base, at, left, r),
         28 => operations::op::compile_system(notes, st, at, r),
         29 => operations::op::compile_while(sheet, text, list, notes, book, st, base, at, left, r),
-        30 => transfers::writes::compile_write(
+        30 => prints::writes::compile_write(
             sheet,
             text,
             list,

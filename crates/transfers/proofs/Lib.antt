@@ -1,3 +1,2 @@
-pub mod Laws
-pub mod PrintLaws
+pub mod OpenLaws
 pub mod LoadLaws

@@ -20,11 +20,11 @@ use Rattle.rules.specs.declared.types.«Type».the-variants.{Real}
 use Rattle.rules.specs.Name.{textPlace}
 use Rattle.rules.specs.Expr.{compileTyped}
 use Rattle.rules.specs.Stmt.{compileStmt, ByteRead, fresh, signed, byteSoFar, noByte, upTo255, digit, plus, byteUnit, byteUnits, finalByte, byteOf, allGiven, badByte, badBytes, allBytes, loadByte, loadBytes, loadNode, compileLoad}
-use Rattle.expressions.specs.Done.{CompiledTyped, CountAt}
+use Rattle.nodes.specs.Done.{CompiledTyped, CountAt}
 use Rattle.expressions.specs.Body.{Body}
+use Rattle.expressions.proofs.Lists.{exprs-step, repeat-step}
 use Rattle.expressions.proofs.ExprLaws.{range-of, how-many}
 use Rattle.transfers.specs.Moved.{readOf, optByte, BytesNoted, Loaded}
-use Rattle.transfers.proofs.Laws.{repeat-step}
 
 -- reading a byte
 pub byte-fits : (n : ℕ) → n < 256 → readOf n ≡ upTo255 n
@@ -159,14 +159,6 @@ pub load-none : (t : List ℕ) (base v : ℕ) (r : Range) (m : Mem) → 256 ≤ 
 load-none t base v r m h = rw (le-ltb _ _ h)
 
 -- loops over the arguments
-args-step : (s : List ℕ) (f : ℕ → Expr) (g : ℕ → ℕ) (n at : ℕ) → 0 < n → exprsAt s f g n at ≡ more (f at) (exprsAt s f g (n - 1) (g at))
-unfolding exprsAt
-args-step s f g zero at h = absurd (omega arith)
-args-step s f g (suc n) at h = rw sub-one
-
-pub load-place : (s : List ℕ) (left n at p : ℕ) → 0 < n → p ≡ skipNode s left exprSort at → skipRepeat s (skipNode s left exprSort) (n - 1) p ≡ skipRepeat s (skipNode s left exprSort) n at
-load-place s left n at p h e = rw (repeat-step s (skipNode s left exprSort) n at h, e)
-
 bad-more : (t : List ℕ) (base : ℕ) (e : Expr) (es : Exprs) (m : Mem) → badBytes (memR t) t base (more e es) m ≡ badBytes (memR t) t base es (badByte (memR t) t base (byteOf t base e) (exprRange e) m)
 unfolding badBytes
 bad-more t base e es m = refl
@@ -177,7 +169,7 @@ pub bad-step : (s t : List ℕ) (base left n at p v : ℕ) (r : Range) (m m1 : M
     ≡ badBytes (memR t) t base (exprsAt s (exprAt s left) (skipNode s left exprSort) n at) m
 bad-step s t base left n at p v r m m1 h hv hr e hp =
     let f : m1 ≡ badByte (memR t) t base (byteOf t base (exprAt s left at)) (exprRange (exprAt s left at)) m = e ∙ ap (λ z. badByte (memR t) t base z r m) hv ∙ ap (λ z. badByte (memR t) t base (byteOf t base (exprAt s left at)) z m) (hr ∙ inv (range-of s left at)) in
-    rw (args-step s (exprAt s left) (skipNode s left exprSort) n at h, bad-more, f, hp)
+    rw (exprs-step s (exprAt s left) (skipNode s left exprSort) n at h, bad-more, f, hp)
 
 pub bad-end : (s t : List ℕ) (base left n k at at₀ : ℕ) (o o₀ : List ℕ) (x x₀ : St) → n ≤ 0 → skipRepeat s (skipNode s left exprSort) n at ≡ skipRepeat s (skipNode s left exprSort) k at₀
     → ((l b : List ℕ) → badBytes (memR t) t base (exprsAt s (exprAt s left) (skipNode s left exprSort) n at) (mem l o b x)
@@ -196,14 +188,14 @@ pub all-step : (s t : List ℕ) (base left n at p v : ℕ) → 0 < n → optByte
 all-step s t base left n at p v h hv i hp =
     let j : v < 256 = omega (arith, i) in
     let f : byteOf t base (exprAt s left at) ≡ given v = inv hv ∙ ap (λ z. pick z (given v) absent) (lt-ltb _ _ j) in
-    rw (args-step s (exprAt s left) (skipNode s left exprSort) n at h, all-more, f, hp)
+    rw (exprs-step s (exprAt s left) (skipNode s left exprSort) n at h, all-more, f, hp)
 
 pub all-stop : (s t : List ℕ) (base left n at v : ℕ) (b : Bool) → 0 < n → allBytes (memR t) t base (exprsAt s (exprAt s left) (skipNode s left exprSort) n at) ≡ b
     → optByte v ≡ byteOf t base (exprAt s left at) → 255 < v → false ≡ b
 all-stop s t base left n at v b h q hv i =
     let j : 256 ≤ v = omega (arith, i) in
     let f : byteOf t base (exprAt s left at) ≡ absent = inv hv ∙ ap (λ z. pick z (given v) absent) (le-ltb _ _ j) in
-    let g : allBytes (memR t) t base (exprsAt s (exprAt s left) (skipNode s left exprSort) n at) ≡ false = rw (args-step s (exprAt s left) (skipNode s left exprSort) n at h, all-more, f) in
+    let g : allBytes (memR t) t base (exprsAt s (exprAt s left) (skipNode s left exprSort) n at) ≡ false = rw (exprs-step s (exprAt s left) (skipNode s left exprSort) n at h, all-more, f) in
     inv g ∙ q
 
 pub all-end : (s t : List ℕ) (base left n at : ℕ) (b : Bool) → n ≤ 0 → allBytes (memR t) t base (exprsAt s (exprAt s left) (skipNode s left exprSort) n at) ≡ b → true ≡ b
@@ -221,7 +213,7 @@ pub load-step : (s t : List ℕ) (base left n at p v : ℕ) (r : Range) (m m1 : 
     ≡ loadBytes (memR t) t base (exprsAt s (exprAt s left) (skipNode s left exprSort) n at) m
 load-step s t base left n at p v r m m1 h hv hr e hp =
     let f : m1 ≡ loadByte (memR t) t base (byteOf t base (exprAt s left at)) (exprRange (exprAt s left at)) m = e ∙ ap (λ z. loadByte (memR t) t base z r m) hv ∙ ap (λ z. loadByte (memR t) t base (byteOf t base (exprAt s left at)) z m) (hr ∙ inv (range-of s left at)) in
-    rw (args-step s (exprAt s left) (skipNode s left exprSort) n at h, load-more, f, hp)
+    rw (exprs-step s (exprAt s left) (skipNode s left exprSort) n at h, load-more, f, hp)
 
 pub load-end : (s t : List ℕ) (base left n at : ℕ) (m m₀ : Mem) → n ≤ 0 → loadBytes (memR t) t base (exprsAt s (exprAt s left) (skipNode s left exprSort) n at) m ≡ m₀ → m ≡ m₀
 unfolding exprsAt loadBytes
@@ -276,5 +268,5 @@ load-of s t base left k r at n q q1 p m m1 m2 c h x y =
     let d : 0 < n = omega (arith, h) in
     record {
       place = rw (← c .place, ← c .count, repeat-step s (skipNode s left exprSort) n q d, ← x .place) (y .place);
-      result = λ child. rw (← c .place, ← c .count, args-step s (exprAt s left) (skipNode s left exprSort) n q d, load-first, ← x .place, ← x .result) (y .result);
+      result = λ child. rw (← c .place, ← c .count, exprs-step s (exprAt s left) (skipNode s left exprSort) n q d, load-first, ← x .place, ← x .result) (y .result);
     }

@@ -1,5 +1,3 @@
-// OPEN, WRITE, PRINT and LOAD compiled: statements that move values out and bytes in.
+// Statements compiled: OPEN and LOAD of compiler.rs.
 pub mod loads;
 pub mod opens;
-pub mod prints;
-pub mod writes;

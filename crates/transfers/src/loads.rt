@@ -124,7 +124,7 @@ fn bad_bytes(
         let v = byte_of(sheet, text, base, p, left);
         let r = expressions::expr::expr_range(sheet, p);
         s = bad_byte(notes, s, v, r);
-        p = sheet::expr::skip_expr(sheet, p, left);
+        p = walk::stmt::skip_expr(sheet, p, left);
         more -= 1;
     }
     Went { st: s, at: p }
@@ -140,7 +140,7 @@ fn all_bytes(sheet: &[u32], text: &[u16], base: u32, at: usize, left: usize, n: 
         if 255 < byte_of(sheet, text, base, p, left) {
             return false;
         }
-        p = sheet::expr::skip_expr(sheet, p, left);
+        p = walk::stmt::skip_expr(sheet, p, left);
         more -= 1;
     }
     true
@@ -178,7 +178,7 @@ fn load_bytes(
         let v = byte_of(sheet, text, base, p, left);
         let r = expressions::expr::expr_range(sheet, p);
         s = load_one(book, s, base, v, r);
-        p = sheet::expr::skip_expr(sheet, p, left);
+        p = walk::stmt::skip_expr(sheet, p, left);
         more -= 1;
     }
     s

@@ -10,7 +10,7 @@ use Rattle.compiler.proofs.compile.Lts as lts
 use Rattle.compiler.proofs.compile_accepted.Reads as compile-accepted-reads
 use Rattle.compiler.proofs.refuse.Reads as refuse-reads
 use Rattle.recorder.proofs.codegen.clear.Reads as clear-reads
-use Rattle.sheet.proofs.check.Reads as check-reads
+use Rattle.walk.proofs.check.Reads as check-reads
 use Rattle.sheet.proofs.form.refusal_number.Reads as refusal-number-reads
 use Rattle.sheet.proofs.form.refusal_place.Reads as refusal-place-reads
 

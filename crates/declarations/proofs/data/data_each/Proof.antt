@@ -8,7 +8,8 @@ use Rattle.recorder.specs.Mem.{mem, memR}
 use Rattle.sheet.specs.Skip.{skipRepeat}
 use Rattle.sheet.specs.Tree.{itemsAt}
 use Rattle.rules.specs.Stmt.{compileData}
-use Rattle.declarations.specs.Parts.{datumHere, twoOn}
+use Rattle.expressions.specs.Lists.{twoOn}
+use Rattle.declarations.specs.Parts.{datumHere}
 use Rattle.declarations.proofs.Laws.{step-data, step-two, data-done}
 use Rattle.declarations.proofs.data.data_each.Statement.{statement}
 use Rattle.declarations.proofs.data.data_each.Tie as tie

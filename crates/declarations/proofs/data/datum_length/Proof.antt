@@ -4,7 +4,7 @@ use Rattle.declarations.proofs.data.datum_length.Statement.{statement}
 use Rattle.declarations.proofs.data.datum_length.Tie as tie
 use Rattle.declarations.proofs.data.datum_length.Reads as reads
 use Rattle.declarations.proofs.data.datum_length.Lts as lts
-use Rattle.expressions.proofs.node.quoted_length.Reads as quoted-length-reads
+use Rattle.nodes.proofs.node.quoted_length.Reads as quoted-length-reads
 use Rattle.rules.proofs.name.units.Reads as units-reads
 
 -- src/data.rt:29:9

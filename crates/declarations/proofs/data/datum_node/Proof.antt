@@ -1,4 +1,4 @@
-use Rattle.expressions.proofs.Laws.{note-at}
+use Rattle.nodes.proofs.Laws.{note-at}
 use Rattle.declarations.proofs.Laws.{datum-at, datum-long, datum-fits}
 use borrow.Author.Needs.{needs}
 use Rattle.declarations.proofs.data.datum_node.Statement.{statement}

@@ -4,7 +4,7 @@ use Rattle.declarations.proofs.data.datum_start.Statement.{statement}
 use Rattle.declarations.proofs.data.datum_start.Tie as tie
 use Rattle.declarations.proofs.data.datum_start.Reads as reads
 use Rattle.declarations.proofs.data.datum_start.Lts as lts
-use Rattle.expressions.proofs.node.quoted_start.Reads as quoted-start-reads
+use Rattle.nodes.proofs.node.quoted_start.Reads as quoted-start-reads
 use Rattle.rules.proofs.name.text_place.Reads as text-place-reads
 
 -- src/data.rt:19:9

@@ -6,8 +6,8 @@ use Rattle.declarations.proofs.define.compile_def.Tie as tie
 use Rattle.declarations.proofs.define.compile_def.Reads as reads
 use Rattle.declarations.proofs.define.compile_def.Lts as lts
 use Rattle.declarations.proofs.define.def_node.Reads as def-node-reads
-use Rattle.expressions.proofs.node.func_name.Reads as func-name-reads
-use Rattle.expressions.proofs.node.opt_range_at.Reads as opt-range-at-reads
+use Rattle.nodes.proofs.node.func_name.Reads as func-name-reads
+use Rattle.nodes.proofs.node.opt_range_at.Reads as opt-range-at-reads
 use Rattle.recorder.proofs.word.behind.Reads as behind-reads
 
 -- src/define.rt:131:9

@@ -1,5 +1,5 @@
 use mathlib.Core.Path.{_∙_}
-use Rattle.expressions.proofs.Laws.{put-at}
+use Rattle.nodes.proofs.Laws.{put-at}
 use Rattle.declarations.proofs.Laws.{patched-at, whole-of}
 use borrow.Author.Needs.{needs}
 use Rattle.declarations.proofs.define.def_whole.Statement.{statement}

@@ -8,7 +8,8 @@ use Rattle.sheet.specs.declared.form.Sort.the-variants.{Expr as exprSort}
 use Rattle.sheet.specs.Skip.{skipNode, skipRepeat}
 use Rattle.sheet.specs.Tree.{exprAt, exprsAt}
 use Rattle.rules.specs.Stmt.{compileDim}
-use Rattle.declarations.proofs.PlaceLaws.{step-expr, step-dim, dim-done}
+use Rattle.expressions.proofs.Lists.{step-expr}
+use Rattle.declarations.proofs.PlaceLaws.{step-dim, dim-done}
 use Rattle.declarations.proofs.dim.dim_each.Statement.{statement}
 use Rattle.declarations.proofs.dim.dim_each.Tie as tie
 use Rattle.declarations.proofs.dim.dim_each.Reads as reads

@@ -1,11 +1,11 @@
-use Rattle.expressions.proofs.Laws.{put-at}
+use Rattle.nodes.proofs.Laws.{put-at}
 use Rattle.declarations.proofs.PlaceLaws.{dim-named, dim-unnamed}
 use borrow.Author.Needs.{needs}
 use Rattle.declarations.proofs.dim.dim_node.Statement.{statement}
 use Rattle.declarations.proofs.dim.dim_node.Tie as tie
 use Rattle.declarations.proofs.dim.dim_node.Reads as reads
 use Rattle.declarations.proofs.dim.dim_node.Lts as lts
-use Rattle.expressions.proofs.node.compile_sym.Reads as compile-sym-reads
+use Rattle.nodes.proofs.node.compile_sym.Reads as compile-sym-reads
 use Rattle.recorder.proofs.codegen.emit_dim.Reads as emit-dim-reads
 
 -- src/dim.rt:30:25

@@ -9,10 +9,10 @@ use Rattle.declarations.proofs.dim.dim_one.Lts as lts
 use Rattle.declarations.proofs.dim.dim_node.Reads as dim-node-reads
 use Rattle.expressions.proofs.expr.compile_args.Reads as compile-args-reads
 use Rattle.expressions.proofs.expr.count_at.Reads as count-at-reads
-use Rattle.expressions.proofs.node.opt_range_at.Reads as opt-range-at-reads
+use Rattle.nodes.proofs.node.opt_range_at.Reads as opt-range-at-reads
 use Rattle.recorder.proofs.word.behind.Reads as behind-reads
 use Rattle.recorder.proofs.word.payload_at.Reads as payload-at-reads
-use Rattle.sheet.proofs.expr.skip_expr.Reads as skip-expr-reads
+use Rattle.walk.proofs.stmt.skip_expr.Reads as skip-expr-reads
 
 -- src/dim.rt:54:9
 returns : tie.Need-returns

@@ -1,5 +1,5 @@
 use mathlib.Core.Path.{_∙_}
-use Rattle.expressions.proofs.Laws.{put-at}
+use Rattle.nodes.proofs.Laws.{put-at}
 use Rattle.declarations.proofs.PlaceLaws.{at-field}
 use borrow.Author.Needs.{needs}
 use Rattle.declarations.proofs.field.compile_field.Statement.{statement}
@@ -10,7 +10,7 @@ use Rattle.declarations.proofs.field.field_each.Reads as field-each-rea
 use Rattle.expressions.proofs.expr.compile_typed.Reads as compile-typed-reads
 use Rattle.expressions.proofs.expr.count_at.Reads as count-at-reads
 use Rattle.recorder.proofs.codegen.emit_field.Reads as emit-field-reads
-use Rattle.sheet.proofs.expr.skip_expr.Reads as skip-expr-reads
+use Rattle.walk.proofs.stmt.skip_expr.Reads as skip-expr-reads
 
 -- src/field.rt:78:9
 skip-expr-requires : tie.Need-skip-expr-requires

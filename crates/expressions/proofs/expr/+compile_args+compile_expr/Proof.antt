@@ -9,7 +9,7 @@ use Rattle.sheet.specs.Skip.{skipNode, skipRepeat}
 use Rattle.sheet.specs.Tree.{exprAt, exprsAt}
 use Rattle.rules.specs.Tables.{wantedBy}
 use Rattle.rules.specs.Expr.{compileArgs}
-use Rattle.expressions.proofs.Laws.{put-at}
+use Rattle.nodes.proofs.Laws.{put-at}
 use Rattle.expressions.proofs.ExprLaws.{head, at-zero, at-var, at-text, at-number, at-func, at-user, at-binary, at-unary, at-index, at-inkey, at-other, step-place, step-args, none-left}
 use Prim.Native.Nat.{ℕ, _<_}
 use borrow.Fn.Kinds.{In}
@@ -24,18 +24,18 @@ use Rattle.expressions.proofs.expr.count_at.Reads as count-at-reads
 use Rattle.expressions.proofs.expr.expr_range.Reads as expr-range-reads
 use Rattle.expressions.proofs.expr.mantissa_at.Reads as mantissa-at-reads
 use Rattle.expressions.proofs.expr.op_at.Reads as op-at-reads
-use Rattle.expressions.proofs.node.binary_node.Reads as binary-node-reads
-use Rattle.expressions.proofs.node.check_type.Reads as check-type-reads
-use Rattle.expressions.proofs.node.func_name.Reads as func-name-reads
-use Rattle.expressions.proofs.node.func_node.Reads as func-node-reads
-use Rattle.expressions.proofs.node.func_notes.Reads as func-notes-reads
-use Rattle.expressions.proofs.node.index_node.Reads as index-node-reads
-use Rattle.expressions.proofs.node.number_node.Reads as number-node-reads
-use Rattle.expressions.proofs.node.opt_range_at.Reads as opt-range-at-reads
-use Rattle.expressions.proofs.node.text_node.Reads as text-node-reads
-use Rattle.expressions.proofs.node.unary_node.Reads as unary-node-reads
-use Rattle.expressions.proofs.node.user_call.Reads as user-call-reads
-use Rattle.expressions.proofs.node.var_node.Reads as var-node-reads
+use Rattle.nodes.proofs.node.binary_node.Reads as binary-node-reads
+use Rattle.nodes.proofs.node.check_type.Reads as check-type-reads
+use Rattle.nodes.proofs.node.func_name.Reads as func-name-reads
+use Rattle.nodes.proofs.node.func_node.Reads as func-node-reads
+use Rattle.nodes.proofs.node.func_notes.Reads as func-notes-reads
+use Rattle.nodes.proofs.node.index_node.Reads as index-node-reads
+use Rattle.nodes.proofs.node.number_node.Reads as number-node-reads
+use Rattle.nodes.proofs.node.opt_range_at.Reads as opt-range-at-reads
+use Rattle.nodes.proofs.node.text_node.Reads as text-node-reads
+use Rattle.nodes.proofs.node.unary_node.Reads as unary-node-reads
+use Rattle.nodes.proofs.node.user_call.Reads as user-call-reads
+use Rattle.nodes.proofs.node.var_node.Reads as var-node-reads
 use Rattle.recorder.proofs.codegen.emit_inkey.Reads as emit-inkey-reads
 use Rattle.recorder.proofs.word.behind.Reads as behind-reads
 use Rattle.recorder.proofs.word.payload_at.Reads as payload-at-reads

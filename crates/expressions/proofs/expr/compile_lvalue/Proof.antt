@@ -9,12 +9,12 @@ use Rattle.expressions.proofs.expr.compile_lvalue.Lts as lts
 use Rattle.expressions.proofs.expr.compile_args.Reads as compile-args-reads
 use Rattle.expressions.proofs.expr.count_at.Reads as count-at-reads
 use Rattle.expressions.proofs.expr.expr_range.Reads as expr-range-reads
-use Rattle.expressions.proofs.node.index_place.Reads as index-place-reads
-use Rattle.expressions.proofs.node.opt_range_at.Reads as opt-range-at-reads
-use Rattle.expressions.proofs.node.var_place.Reads as var-place-reads
+use Rattle.nodes.proofs.node.index_place.Reads as index-place-reads
+use Rattle.nodes.proofs.node.opt_range_at.Reads as opt-range-at-reads
+use Rattle.nodes.proofs.node.var_place.Reads as var-place-reads
 use Rattle.recorder.proofs.word.behind.Reads as behind-reads
 use Rattle.recorder.proofs.word.payload_at.Reads as payload-at-reads
-use Rattle.sheet.proofs.expr.skip_expr.Reads as skip-expr-reads
+use Rattle.walk.proofs.stmt.skip_expr.Reads as skip-expr-reads
 
 -- src/expr.rt:316:9
 returns : tie.Need-returns

@@ -7,7 +7,7 @@ use Rattle.expressions.proofs.expr.compile_typed.Reads as reads
 use Rattle.expressions.proofs.expr.compile_typed.Lts as lts
 use Rattle.expressions.proofs.expr.compile_expr.Reads as compile-expr-reads
 use Rattle.expressions.proofs.expr.expr_range.Reads as expr-range-reads
-use Rattle.expressions.proofs.node.check_type.Reads as check-type-reads
+use Rattle.nodes.proofs.node.check_type.Reads as check-type-reads
 
 -- src/expr.rt:293:9
 compile-expr-requires : tie.Need-compile-expr-requires

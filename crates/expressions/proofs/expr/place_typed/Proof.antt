@@ -7,7 +7,7 @@ use Rattle.expressions.proofs.expr.place_typed.Reads as reads
 use Rattle.expressions.proofs.expr.place_typed.Lts as lts
 use Rattle.expressions.proofs.expr.compile_lvalue.Reads as compile-lvalue-reads
 use Rattle.expressions.proofs.expr.expr_range.Reads as expr-range-reads
-use Rattle.expressions.proofs.node.check_type.Reads as check-type-reads
+use Rattle.nodes.proofs.node.check_type.Reads as check-type-reads
 
 -- src/expr.rt:381:9
 compile-lvalue-requires : tie.Need-compile-lvalue-requires

@@ -9,31 +9,31 @@ use Rattle.expressions.proofs.expr.compile_args.Reads as compile-args-reads
 use Rattle.expressions.proofs.expr.count_at.Reads as count-at-reads
 use Rattle.operations.proofs.draw.draw_node.Reads as draw-node-reads
 
--- src/draw.rt:94:9
+-- src/draw.rt:56:9
 count-at-requires : tie.Need-count-at-requires
 count-at-requires c κs = search needs
 
--- src/draw.rt:95:9
+-- src/draw.rt:57:9
 compile-args-requires : tie.Need-compile-args-requires
 compile-args-requires c κs = search needs
 
--- src/draw.rt:109:9
+-- src/draw.rt:71:9
 draw-node-requires : tie.Need-draw-node-requires
 draw-node-requires c κs = search needs
 
--- src/draw.rt:79:1
+-- src/draw.rt:41:1
 same-length : tie.Need-same-length
 same-length c = (c .before .before .before .before .draw-node .kept .1 .0) ∙ (c .before .before .before .before .before .before .before .before .before .before .before .before .before .before .compile-args .kept .1 .1 .0)
 
--- src/draw.rt:79:1
+-- src/draw.rt:41:1
 same-length-2 : tie.Need-same-length-2
 same-length-2 c = (c .before .before .before .before .draw-node .kept .1 .1 .0) ∙ (c .before .before .before .before .before .before .before .before .before .before .before .before .before .before .compile-args .kept .1 .1 .1 .0)
 
--- src/draw.rt:79:1
+-- src/draw.rt:41:1
 same-length-3 : tie.Need-same-length-3
 same-length-3 c = (c .before .before .before .before .before .before .before .before .before .before .before .before .before .before .compile-args .kept .1 .1 .1 .1 .0)
 
--- src/draw.rt:79:1
+-- src/draw.rt:41:1
 returns : tie.Need-returns
 returns c = draw-of _ _ _ _ _ _ _ _ _ _ _ _ _ (c .before .before .before .before .before .before .before .before .before .before .before .before .before .before .before .before .before .before .count-at .ensures) (c .before .before .before .before .before .before .before .before .before .before .before .before .before .before .compile-args .ensures) ((c .before .before .before .before .draw-node .ensures) _ _ _)
 

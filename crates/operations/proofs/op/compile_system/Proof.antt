@@ -1,4 +1,4 @@
-use Rattle.expressions.proofs.Laws.{note-at}
+use Rattle.nodes.proofs.Laws.{note-at}
 use Rattle.operations.proofs.OpLaws.{system-of}
 use borrow.Author.Needs.{needs}
 use Rattle.operations.proofs.op.compile_system.Statement.{statement}

@@ -1,4 +1,5 @@
 use native.Mathlib.Omega.{arith}
+use mathlib.Core.Path.{_∙_}
 use Rattle.sheet.proofs.Rows.{start-outside}
 use Prim.Native.Nat.{_+_}
 use borrow.Author.Needs.{needs}
@@ -6,32 +7,29 @@ use Rattle.sheet.proofs.form.start_after.Statement.{statement}
 use Rattle.sheet.proofs.form.start_after.Tie as tie
 use Rattle.sheet.proofs.form.start_after.Reads as reads
 use Rattle.sheet.proofs.form.start_after.Lts as lts
+use Rattle.sheet.proofs.form.start_number.Reads as start-number-reads
 use Rattle.sheet.proofs.form.wide.Reads as wide-reads
 
--- src/form.rt:216:29
-add-wide : tie.Need-add-wide
-add-wide c = search needs
+-- src/form.rt:395:35
+add-start-number : tie.Need-add-start-number
+add-start-number c = search needs
 
--- src/form.rt:216:22
-mul-wide : tie.Need-mul-wide
-mul-wide c = search needs
+-- src/form.rt:395:22
+start-number-requires : tie.Need-start-number-requires
+start-number-requires c κs = search needs
 
--- src/form.rt:216:22
-array-read-wide : tie.Need-array-read-wide
-array-read-wide c = search needs
-
--- src/form.rt:216:17
+-- src/form.rt:395:17
 wide-requires : tie.Need-wide-requires
 wide-requires c κs = search needs
 
--- src/form.rt:213:1
+-- src/form.rt:392:1
 returns : tie.Need-returns
-returns c = (c .wide .ensures)
+returns c = (c .wide .ensures) ∙ (c .before .start-number .ensures)
 
--- src/form.rt:213:1
+-- src/form.rt:392:1
 returns-2 : tie.Need-returns-2
 returns-2 c = start-outside ((c .before .args .m) + 1) (omega (arith, (c .if1 .left)))
 
 pub start-after-spec : {M : Type 1} → statement M
 start-after-spec =
-    tie.close (tie.spec add-wide mul-wide array-read-wide wide-requires returns returns-2)
+    tie.close (tie.spec add-start-number start-number-requires wide-requires returns returns-2)

@@ -5,13 +5,13 @@ use Rattle.statements.proofs.plain.print_to_write.Statement.{statement}
 use Rattle.statements.proofs.plain.print_to_write.Tie as tie
 use Rattle.statements.proofs.plain.print_to_write.Reads as reads
 use Rattle.statements.proofs.plain.print_to_write.Lts as lts
-use Rattle.operations.proofs.jump.compile_restore.Reads as compile-restore-reads
+use Rattle.jumps.proofs.jump.compile_restore.Reads as compile-restore-reads
 use Rattle.operations.proofs.op.compile_system.Reads as compile-system-reads
 use Rattle.operations.proofs.op.compile_while.Reads as compile-while-reads
-use Rattle.operations.proofs.place.compile_read.Reads as compile-read-reads
-use Rattle.operations.proofs.place.compile_swap.Reads as compile-swap-reads
-use Rattle.transfers.proofs.prints.compile_print.Reads as compile-print-reads
-use Rattle.transfers.proofs.writes.compile_write.Reads as compile-write-reads
+use Rattle.places.proofs.place.compile_read.Reads as compile-read-reads
+use Rattle.places.proofs.place.compile_swap.Reads as compile-swap-reads
+use Rattle.prints.proofs.prints.compile_print.Reads as compile-print-reads
+use Rattle.prints.proofs.writes.compile_write.Reads as compile-write-reads
 
 -- src/plain.rt:114:15
 compile-print-requires : tie.Need-compile-print-requires

@@ -5,13 +5,13 @@ use Rattle.statements.proofs.plain.set_to_goto.Statement.{statement}
 use Rattle.statements.proofs.plain.set_to_goto.Tie as tie
 use Rattle.statements.proofs.plain.set_to_goto.Reads as reads
 use Rattle.statements.proofs.plain.set_to_goto.Lts as lts
-use Rattle.declarations.proofs.count.compile_for.Reads as compile-for-reads
+use Rattle.loops.proofs.count.compile_for.Reads as compile-for-reads
 use Rattle.declarations.proofs.data.compile_data.Reads as compile-data-reads
 use Rattle.declarations.proofs.define.compile_def.Reads as compile-def-reads
 use Rattle.declarations.proofs.dim.compile_dim.Reads as compile-dim-reads
 use Rattle.declarations.proofs.field.compile_field.Reads as compile-field-reads
-use Rattle.operations.proofs.jump.compile_gosub.Reads as compile-gosub-reads
-use Rattle.operations.proofs.jump.compile_goto.Reads as compile-goto-reads
+use Rattle.jumps.proofs.jump.compile_gosub.Reads as compile-gosub-reads
+use Rattle.jumps.proofs.jump.compile_goto.Reads as compile-goto-reads
 use Rattle.operations.proofs.op.compile_set.Reads as compile-set-reads
 
 -- src/plain.rt:57:14

@@ -9,7 +9,7 @@ use Rattle.sheet.specs.declared.form.Sort.the-variants.{Stmt as stmtSort}
 use Rattle.sheet.specs.Skip.{skipNode, skipRepeat}
 use Rattle.sheet.specs.Tree.{stmtAt, stmtsAt}
 use Rattle.rules.specs.Stmt.{compileStmts}
-use Rattle.expressions.proofs.Laws.{put-at}
+use Rattle.nodes.proofs.Laws.{put-at}
 use Rattle.expressions.proofs.ExprLaws.{head}
 use Rattle.statements.proofs.StmtLaws.{stmt-zero, stmt-plain, stmt-if, if-then, if-else, more-place, more-stmts, no-more}
 use Prim.Native.Nat.{ℕ, _<_}

@@ -1,4 +1,4 @@
-use Rattle.expressions.proofs.Laws.{note-at}
+use Rattle.nodes.proofs.Laws.{note-at}
 use Rattle.transfers.proofs.LoadLaws.{byte-good, byte-bad}
 use borrow.Author.Needs.{needs}
 use Rattle.transfers.proofs.loads.bad_byte.Statement.{statement}

@@ -8,7 +8,8 @@ use Rattle.sheet.specs.declared.form.Sort.the-variants.{Expr as exprSort}
 use Rattle.sheet.specs.Skip.{skipNode, skipRepeat}
 use Rattle.sheet.specs.Tree.{exprAt, exprsAt}
 use Rattle.rules.specs.Stmt.{badBytes}
-use Rattle.transfers.proofs.LoadLaws.{load-place, bad-step, bad-end}
+use Rattle.expressions.proofs.Lists.{step-expr}
+use Rattle.transfers.proofs.LoadLaws.{bad-step, bad-end}
 use borrow.Author.Needs.{needs}
 use Rattle.transfers.proofs.loads.bad_bytes.Statement.{statement}
 use Rattle.transfers.proofs.loads.bad_bytes.Tie as tie
@@ -45,7 +46,7 @@ loop-less : tie.Need-loop-less Inv-loop μ-loop
 loop-less c = omega (arith, (c .before .before .before .before .before .before .before .loop-test .taken))
 
 loop-again : tie.Need-loop-again Inv-loop μ-loop
-loop-again c = ((c .before .before .before .bad-byte .kept .0) ∙ (c .before .before .before .before .before .before .before .before .loop .inv .0), load-place (c .before .before .before .before .before .before .before .before .before .before .before .before .args .sheet .now) (c .before .before .before .before .before .before .before .before .before .before .before .before .args .left) (c .before .before .before .before .before .before .before .before .loop .more) (c .before .before .before .before .before .before .before .before .loop .p) _ (c .before .before .before .before .before .before .before .loop-test .taken) (c .skip-expr .ensures) ∙ (c .before .before .before .before .before .before .before .before .loop .inv .1), λ l b. bad-step (c .before .before .before .before .before .before .before .before .before .before .before .before .args .sheet .now) (c .before .before .before .before .before .before .before .before .before .before .before .before .args .text .now) (c .before .before .before .before .before .before .before .before .before .before .before .before .args .base) (c .before .before .before .before .before .before .before .before .before .before .before .before .args .left) (c .before .before .before .before .before .before .before .before .loop .more) (c .before .before .before .before .before .before .before .before .loop .p) _ (c .before .before .before .before .before .before .byte-of .result) (c .before .before .before .before .before .expr-range .result) _ _ (c .before .before .before .before .before .before .before .loop-test .taken) (c .before .before .before .before .before .before .byte-of .ensures) (c .before .before .before .before .before .expr-range .ensures) ((c .before .before .before .bad-byte .ensures) (c .before .before .before .before .before .before .before .before .before .before .before .before .args .text .now) l b (c .before .before .before .before .before .before .before .before .before .before .before .before .args .base)) (c .skip-expr .ensures) ∙ (c .before .before .before .before .before .before .before .before .loop .inv .2) l b)
+loop-again c = ((c .before .before .before .bad-byte .kept .0) ∙ (c .before .before .before .before .before .before .before .before .loop .inv .0), step-expr (c .before .before .before .before .before .before .before .before .before .before .before .before .args .sheet .now) (c .before .before .before .before .before .before .before .before .before .before .before .before .args .left) (c .before .before .before .before .before .before .before .before .loop .more) (c .before .before .before .before .before .before .before .before .loop .p) _ (c .before .before .before .before .before .before .before .loop-test .taken) (c .skip-expr .ensures) ∙ (c .before .before .before .before .before .before .before .before .loop .inv .1), λ l b. bad-step (c .before .before .before .before .before .before .before .before .before .before .before .before .args .sheet .now) (c .before .before .before .before .before .before .before .before .before .before .before .before .args .text .now) (c .before .before .before .before .before .before .before .before .before .before .before .before .args .base) (c .before .before .before .before .before .before .before .before .before .before .before .before .args .left) (c .before .before .before .before .before .before .before .before .loop .more) (c .before .before .before .before .before .before .before .before .loop .p) _ (c .before .before .before .before .before .before .byte-of .result) (c .before .before .before .before .before .expr-range .result) _ _ (c .before .before .before .before .before .before .before .loop-test .taken) (c .before .before .before .before .before .before .byte-of .ensures) (c .before .before .before .before .before .expr-range .ensures) ((c .before .before .before .bad-byte .ensures) (c .before .before .before .before .before .before .before .before .before .before .before .before .args .text .now) l b (c .before .before .before .before .before .before .before .before .before .before .before .before .args .base)) (c .skip-expr .ensures) ∙ (c .before .before .before .before .before .before .before .before .loop .inv .2) l b)
 
 same-length : tie.Need-same-length Inv-loop μ-loop
 same-length c = (c .before .loop .inv .0)

@@ -1,5 +1,5 @@
 use mathlib.Core.Path.{_∙_}
-use Rattle.expressions.proofs.Laws.{put-at, note-at}
+use Rattle.nodes.proofs.Laws.{put-at, note-at}
 use Rattle.transfers.proofs.LoadLaws.{node-none, node-bytes, node-bad}
 use borrow.Author.Needs.{needs}
 use Rattle.transfers.proofs.loads.load_node.Statement.{statement}

@@ -1,5 +1,5 @@
 use mathlib.Core.Path.{_∙_}
-use Rattle.transfers.proofs.Laws.{open-of}
+use Rattle.transfers.proofs.OpenLaws.{open-of}
 use borrow.Author.Needs.{needs}
 use Rattle.transfers.proofs.opens.compile_open.Statement.{statement}
 use Rattle.transfers.proofs.opens.compile_open.Tie as tie

@@ -1,5 +1,5 @@
-use Rattle.expressions.proofs.Laws.{note-at}
-use Rattle.transfers.proofs.Laws.{len-noted, len-fine}
+use Rattle.nodes.proofs.Laws.{note-at}
+use Rattle.transfers.proofs.OpenLaws.{len-noted, len-fine}
 use borrow.Author.Needs.{needs}
 use Rattle.transfers.proofs.opens.len_note.Statement.{statement}
 use Rattle.transfers.proofs.opens.len_note.Tie as tie

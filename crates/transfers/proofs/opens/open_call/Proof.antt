@@ -1,5 +1,5 @@
-use Rattle.expressions.proofs.Laws.{put-at}
-use Rattle.transfers.proofs.Laws.{open-error, open-called}
+use Rattle.nodes.proofs.Laws.{put-at}
+use Rattle.transfers.proofs.OpenLaws.{open-error, open-called}
 use borrow.Author.Needs.{needs}
 use Rattle.transfers.proofs.opens.open_call.Statement.{statement}
 use Rattle.transfers.proofs.opens.open_call.Tie as tie

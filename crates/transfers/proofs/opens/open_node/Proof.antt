@@ -1,6 +1,6 @@
 use mathlib.Core.Path.{_∙_}
-use Rattle.expressions.proofs.Laws.{put-at}
-use Rattle.transfers.proofs.Laws.{no-len, with-len}
+use Rattle.nodes.proofs.Laws.{put-at}
+use Rattle.transfers.proofs.OpenLaws.{no-len, with-len}
 use borrow.Author.Needs.{needs}
 use Rattle.transfers.proofs.opens.open_node.Statement.{statement}
 use Rattle.transfers.proofs.opens.open_node.Tie as tie

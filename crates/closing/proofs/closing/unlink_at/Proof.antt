@@ -1,0 +1,79 @@
+use Rattle.closing.proofs.ClosingLaws.{unlink-name, unlink-other, unlink-none}
+use borrow.Author.Needs.{needs}
+use Rattle.closing.proofs.closing.unlink_at.Statement.{statement}
+use Rattle.closing.proofs.closing.unlink_at.Tie as tie
+use Rattle.closing.proofs.closing.unlink_at.Reads as reads
+use Rattle.closing.proofs.closing.unlink_at.Lts as lts
+use Rattle.closing.proofs.closing.sigil_of.Reads as sigil-of-reads
+use Rattle.recorder.proofs.word.kind_at.Reads as kind-at-reads
+use Rattle.recorder.proofs.word.word_at.Reads as word-at-reads
+
+-- src/closing.rt:397:17
+mul-i : tie.Need-mul-i
+mul-i c = search needs
+
+-- src/closing.rt:398:12
+kind-at-requires : tie.Need-kind-at-requires
+kind-at-requires c κs = search needs
+
+-- src/closing.rt:399:50
+add-word-at : tie.Need-add-word-at
+add-word-at c = search needs
+
+-- src/closing.rt:399:36
+word-at-requires : tie.Need-word-at-requires
+word-at-requires c κs = search needs
+
+-- src/closing.rt:399:27
+sigil-of-requires : tie.Need-sigil-of-requires
+sigil-of-requires c κs = search needs
+
+-- src/closing.rt:399:18
+add-book : tie.Need-add-book
+add-book c = search needs
+
+-- src/closing.rt:399:13
+mul-book : tie.Need-mul-book
+mul-book c = search needs
+
+-- src/closing.rt:399:13
+slice-write-book : tie.Need-slice-write-book
+slice-write-book c = search needs
+
+-- src/closing.rt:393:1
+same-length : tie.Need-same-length
+same-length c = search needs
+
+-- src/closing.rt:393:1
+returns : tie.Need-returns
+returns c = unlink-name (c .before .before .before .before .before .before .before .before .args .book .now) (c .before .before .before .before .before .before .before .before .args .k) _ _ _ (c .before .before .before .before .kind-at .ensures) (c .before .before .before .if2 .taken) (c .before .word-at .ensures) (c .sigil-of .ensures)
+
+-- src/closing.rt:393:1
+same-length-2 : tie.Need-same-length-2
+same-length-2 c = search needs
+
+-- src/closing.rt:393:1
+returns-2 : tie.Need-returns-2
+returns-2 c = unlink-other (c .before .before .before .before .before .args .book .now) (c .before .before .before .before .before .args .k) _ (c .before .kind-at .ensures) (c .if2 .left)
+
+-- src/closing.rt:393:1
+returns-3 : tie.Need-returns-3
+returns-3 c = unlink-none (c .before .before .args .book .now) (c .before .before .args .k) (c .if1 .left)
+
+pub unlink-at-spec : {M : Type 1} → statement M
+unlink-at-spec =
+    tie.close
+    (tie.spec
+    mul-i
+    kind-at-requires
+    add-word-at
+    word-at-requires
+    sigil-of-requires
+    add-book
+    mul-book
+    slice-write-book
+    same-length
+    returns
+    same-length-2
+    returns-2
+    returns-3)

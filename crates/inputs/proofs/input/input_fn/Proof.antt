@@ -1,0 +1,74 @@
+use mathlib.Core.Path.{_∙_}
+use Rattle.inputs.proofs.InputLaws.{input-fn-of}
+use borrow.Author.Needs.{needs}
+use Rattle.inputs.proofs.input.input_fn.Statement.{statement}
+use Rattle.inputs.proofs.input.input_fn.Tie as tie
+use Rattle.inputs.proofs.input.input_fn.Reads as reads
+use Rattle.inputs.proofs.input.input_fn.Lts as lts
+use Rattle.inputs.proofs.input.fn_place.Reads as fn-place-reads
+use Rattle.inputs.proofs.input.input_arg.Reads as input-arg-reads
+use Rattle.inputs.proofs.input.is_ident.Reads as is-ident-reads
+use Rattle.expressions.proofs.expr.expr_range.Reads as expr-range-reads
+use Rattle.nodes.proofs.node.func_name.Reads as func-name-reads
+use Rattle.nodes.proofs.node.opt_range_at.Reads as opt-range-at-reads
+use Rattle.recorder.proofs.word.behind.Reads as behind-reads
+
+-- src/input.rt:84:9
+opt-range-at-requires : tie.Need-opt-range-at-requires
+opt-range-at-requires c κs = search needs
+
+-- src/input.rt:85:9
+behind-requires : tie.Need-behind-requires
+behind-requires c κs = search needs
+
+-- src/input.rt:86:9
+func-name-requires : tie.Need-func-name-requires
+func-name-requires c κs = search needs
+
+-- src/input.rt:88:9
+is-ident-requires : tie.Need-is-ident-requires
+is-ident-requires c κs = search needs
+
+-- src/input.rt:89:9
+expr-range-requires : tie.Need-expr-range-requires
+expr-range-requires c κs = search needs
+
+-- src/input.rt:90:9
+input-arg-requires : tie.Need-input-arg-requires
+input-arg-requires c κs = search needs
+
+-- src/input.rt:92:5
+fn-place-requires : tie.Need-fn-place-requires
+fn-place-requires c κs = search needs
+
+-- src/input.rt:70:1
+same-length : tie.Need-same-length
+same-length c = search needs
+
+-- src/input.rt:70:1
+same-length-2 : tie.Need-same-length-2
+same-length-2 c = (c .before .before .before .before .before .before .before .before .before .input-arg .kept .1 .0) ∙ (c .before .before .before .before .before .before .before .before .before .before .before .before .before .before .before .before .before .before .before .func-name .kept .1 .0)
+
+-- src/input.rt:70:1
+same-length-3 : tie.Need-same-length-3
+same-length-3 c = (c .before .before .before .before .before .before .before .before .before .input-arg .kept .1 .1 .0) ∙ (c .before .before .before .before .before .before .before .before .before .before .before .before .before .before .before .before .before .before .before .func-name .kept .1 .1 .0)
+
+-- src/input.rt:70:1
+returns : tie.Need-returns
+returns c = input-fn-of _ _ _ _ _ _ (c .before .before .before .before .before .before .before .before .before .before .before .before .before .before .before .before .before .before .before .before .before .before .before .opt-range-at .result) _ _ _ _ _ _ _ _ _ (c .before .before .before .before .before .before .before .before .before .before .before .before .before .before .before .before .before .before .before .before .before .before .before .opt-range-at .ensures) (c .before .before .before .before .before .before .before .before .before .before .before .before .before .before .before .before .before .before .before .before .before .before .behind .ensures) ((c .before .before .before .before .before .before .before .before .before .before .before .before .before .before .before .before .before .before .before .func-name .ensures) _) (c .before .before .before .before .before .before .before .before .before .before .before .before .before .is-ident .ensures) (c .before .before .before .before .before .before .before .before .before .before .before .before .expr-range .ensures) ((c .before .before .before .before .before .before .before .before .before .input-arg .ensures) _) ((c .before .before .fn-place .ensures) (c .before .before .before .before .before .before .before .before .before .before .before .before .before .before .before .before .before .before .before .before .before .before .before .before .before .before .before .before .before .args .text .now) _ _ (c .before .before .before .before .before .before .before .before .before .before .before .before .before .before .before .before .before .before .before .before .before .before .before .before .before .before .before .before .before .args .base))
+
+pub input-fn-spec : {M : Type 1} → statement M
+input-fn-spec =
+    tie.close
+    (tie.spec
+    opt-range-at-requires
+    behind-requires
+    func-name-requires
+    is-ident-requires
+    expr-range-requires
+    input-arg-requires
+    fn-place-requires
+    same-length
+    same-length-2
+    same-length-3
+    returns)

@@ -1,0 +1,310 @@
+// INPUT: its source stands first in the sheet and is compiled last.
+use expressions::expr::Went;
+use nodes::node::OptRange;
+use recorder::codegen::Named;
+use recorder::codegen::St;
+use recorder::word::Range;
+use rules::types::Type;
+ghost use mathlib.Core.Path.{_≡_};
+ghost use mathlib.Core.List.{List};
+ghost use Prim.Native.Nat.{ℕ};
+ghost use Rattle.recorder.specs.Word.{payloadAt, rangeAt, next};
+ghost use Rattle.recorder.specs.Mem.{mem, memR};
+ghost use Rattle.sheet.specs.declared.form.Item.the-variants.{Source};
+ghost use Rattle.sheet.specs.declared.form.Shape.the-variants.{Input};
+ghost use Rattle.sheet.specs.Skip.{skipNode, skipItem};
+ghost use Rattle.sheet.specs.Tree.{Expr, Stmt, exprRange, exprAt, optAt, sourceOf};
+ghost use Rattle.rules.specs.Stmt.{isIdent, isFile, inputArgBy, fnPlace, inputFn, fnInput, inputSource};
+ghost use Rattle.nodes.specs.Done.{named, optOf};
+ghost use Rattle.expressions.specs.Body.{Body};
+ghost use Rattle.inputs.specs.Parts.{Taken, TakenAll};
+
+// Whether the expression at a place is a variable.
+fn is_ident(sheet: &[u32], at: usize, left: usize) -> bool
+    ensures { λ x. ⌜ x ≡ isIdent (exprAt (now (sheet .entry)) left at) ⌝ }
+{
+    if left == 0 {
+        false
+    } else {
+        recorder::word::payload_at(sheet, at) == 0
+    }
+}
+
+// A function's argument, which must be a variable: else class 12.
+fn input_arg(
+    text: &[u16],
+    notes: &mut [u32],
+    book: &mut [u32],
+    st: St,
+    base: u32,
+    ident: bool,
+    r: Range,
+) -> Named
+    ensures { λ x. ⌜ ((l : List ℕ) (e : Expr) → exprRange e ≡ r → named (mem l (now (notes .exit)) (now (book .exit)) (x .st)) (x .number) ≡ inputArgBy (memR (now (text .entry))) (now (text .entry)) base ident e (mem l (now (notes .entry)) (now (book .entry)) st)) ⌝ }
+{
+    if ident {
+        nodes::node::real_sym(text, notes, book, st, base, r)
+    } else {
+        let s = recorder::codegen::note(notes, st, 12, r, 1);
+        Named { st: s, number: 0 }
+    }
+}
+
+// A function of a variable to store to: call 9.
+fn fn_place(list: &mut [u32], st: St, o: OptRange, ident: bool, r: Range, n: u32, a: u32) -> St
+    ensures { λ x. ⌜ ((t k b : List ℕ) (base : ℕ) → mem (now (list .exit)) k b x ≡ fnPlace (memR t) t base (optOf o) ident r n a (mem (now (list .entry)) k b st)) ⌝ }
+{
+    match o {
+        OptRange::Given(_) => {
+            if ident {
+                recorder::codegen::emit_fn_lvalue(list, st, r, n, a)
+            } else {
+                st
+            }
+        }
+        OptRange::Absent => st,
+    }
+}
+
+// From the keyboard: a function's name, its argument, and its place.
+fn input_fn(
+    sheet: &[u32],
+    text: &[u16],
+    list: &mut [u32],
+    notes: &mut [u32],
+    book: &mut [u32],
+    st: St,
+    base: u32,
+    at: usize,
+    left: usize,
+    r: Range,
+) -> St
+    ensures { λ x. ⌜ mem (now (list .exit)) (now (notes .exit)) (now (book .exit)) x ≡ inputFn (memR (now (text .entry))) (now (text .entry)) base r (optAt (now (sheet .entry)) (rangeAt (now (sheet .entry))) at) (exprAt (now (sheet .entry)) left (next (now (sheet .entry)) at)) (mem (now (list .entry)) (now (notes .entry)) (now (book .entry)) st) ⌝ }
+{
+    let o = nodes::node::opt_range_at(sheet, at);
+    let q = recorder::word::behind(sheet, at);
+    let x = nodes::node::func_name(text, notes, book, st, base, o);
+    let xs = x.st;
+    let i = is_ident(sheet, q, left);
+    let ar = expressions::expr::expr_range(sheet, q);
+    let y = input_arg(text, notes, book, xs, base, i, ar);
+    let ys = y.st;
+    fn_place(list, ys, o, i, r, x.number, y.number)
+}
+
+// From a file no function is read: class 12.
+fn fn_input(
+    sheet: &[u32],
+    text: &[u16],
+    list: &mut [u32],
+    notes: &mut [u32],
+    book: &mut [u32],
+    st: St,
+    base: u32,
+    at: usize,
+    left: usize,
+    r: Range,
+    file: bool,
+) -> St
+    ensures { λ x. ⌜ mem (now (list .exit)) (now (notes .exit)) (now (book .exit)) x ≡ fnInput (memR (now (text .entry))) (now (text .entry)) base file r (optAt (now (sheet .entry)) (rangeAt (now (sheet .entry))) at) (exprAt (now (sheet .entry)) left (next (now (sheet .entry)) at)) (mem (now (list .entry)) (now (notes .entry)) (now (book .entry)) st) ⌝ }
+{
+    if file {
+        recorder::codegen::note(notes, st, 12, r, 1)
+    } else {
+        input_fn(sheet, text, list, notes, book, st, base, at, left, r)
+    }
+}
+
+fn input_var(
+    sheet: &[u32],
+    text: &[u16],
+    list: &mut [u32],
+    notes: &mut [u32],
+    book: &mut [u32],
+    st: St,
+    base: u32,
+    at: usize,
+    left: usize,
+    file: bool,
+) -> Went
+    ensures { λ x. ⌜ Taken (now (sheet .entry)) (now (text .entry)) base left at file (mem (now (list .entry)) (now (notes .entry)) (now (book .entry)) st) (mem (now (list .exit)) (now (notes .exit)) (now (book .exit)) (x .st)) (x .at) ⌝ }
+{
+    if left == 0 {
+        return Went { st, at };
+    }
+    let k = recorder::word::payload_at(sheet, at);
+    let r = expressions::expr::expr_range(sheet, at);
+    let p = recorder::word::behind(sheet, recorder::word::behind(sheet, at));
+    if k == 4 {
+        let s = fn_input(
+            sheet,
+            text,
+            list,
+            notes,
+            book,
+            st,
+            base,
+            p,
+            left - 1,
+            r,
+            file,
+        );
+        let q = walk::stmt::skip_expr(sheet, at, left);
+        Went { st: s, at: q }
+    } else {
+        let x = expressions::expr::compile_lvalue(
+            sheet,
+            text,
+            list,
+            notes,
+            book,
+            st,
+            base,
+            at,
+            left,
+        );
+        let xs = x.st;
+        Went { st: xs, at: x.at }
+    }
+}
+
+fn input_vars(
+    sheet: &[u32],
+    text: &[u16],
+    list: &mut [u32],
+    notes: &mut [u32],
+    book: &mut [u32],
+    st: St,
+    base: u32,
+    at: usize,
+    n: u32,
+    left: usize,
+    file: bool,
+) -> Went
+    ensures { λ x. ⌜ TakenAll (now (sheet .entry)) (now (text .entry)) base left at n file (mem (now (list .entry)) (now (notes .entry)) (now (book .entry)) st) (mem (now (list .exit)) (now (notes .exit)) (now (book .exit)) (x .st)) (x .at) ⌝ }
+{
+    let mut s = st;
+    let mut p = at;
+    let mut more = n;
+    while 0 < more {
+        let x = input_var(sheet, text, list, notes, book, s, base, p, left, file);
+        s = x.st;
+        p = x.at;
+        more -= 1;
+    }
+    Went { st: s, at: p }
+}
+
+// The keyboard's call 32, behind a prompt that may be there, or a file's call 33 behind its number.
+fn input_source(
+    sheet: &[u32],
+    text: &[u16],
+    list: &mut [u32],
+    notes: &mut [u32],
+    book: &mut [u32],
+    st: St,
+    base: u32,
+    at: usize,
+    left: usize,
+    r: Range,
+    n: u32,
+) -> St
+    ensures { λ x. ⌜ ((child : ℕ → Stmt) → mem (now (list .exit)) (now (notes .exit)) (now (book .exit)) x ≡ inputSource (memR (now (text .entry))) (now (text .entry)) base r n (sourceOf (now (sheet .entry)) left child (payloadAt (now (sheet .entry)) at) (next (now (sheet .entry)) at)) (mem (now (list .entry)) (now (notes .entry)) (now (book .entry)) st)) ⌝ }
+{
+    let k = recorder::word::payload_at(sheet, at);
+    let p = recorder::word::behind(sheet, at);
+    match k {
+        0 => recorder::codegen::emit_keyboard_input(list, st, r, 0, n),
+        1 => {
+            let pr = recorder::word::range_at(sheet, p);
+            let s = nodes::node::text_node(text, list, notes, st, base, pr);
+            recorder::codegen::emit_keyboard_input(list, s, r, 1, n)
+        }
+        _ => {
+            let x = expressions::expr::compile_typed(
+                sheet,
+                text,
+                list,
+                notes,
+                book,
+                st,
+                base,
+                p,
+                left,
+                Type::Real,
+            );
+            let xs = x.st;
+            recorder::codegen::emit_file_input(list, xs, r, n)
+        }
+    }
+}
+
+fn is_file(sheet: &[u32], at: usize) -> bool
+    ensures { λ x. ⌜ ((left : ℕ) (child : ℕ → Stmt) → x ≡ isFile (sourceOf (now (sheet .entry)) left child (payloadAt (now (sheet .entry)) at) (next (now (sheet .entry)) at))) ⌝ }
+{
+    match recorder::word::payload_at(sheet, at) {
+        0 => false,
+        1 => false,
+        _ => true,
+    }
+}
+
+// INPUT's variables stand behind its source.
+fn behind_source(sheet: &[u32], at: usize, left: usize) -> usize
+    ensures { λ x. ⌜ x ≡ skipItem (now (sheet .entry)) (skipNode (now (sheet .entry)) left) Source at ⌝ }
+{
+    let k = recorder::word::payload_at(sheet, at);
+    let p = recorder::word::behind(sheet, at);
+    match k {
+        0 => p,
+        1 => recorder::word::behind(sheet, p),
+        _ => walk::stmt::skip_expr(sheet, p, left),
+    }
+}
+
+pub fn compile_input(
+    sheet: &[u32],
+    text: &[u16],
+    list: &mut [u32],
+    notes: &mut [u32],
+    book: &mut [u32],
+    st: St,
+    base: u32,
+    at: usize,
+    left: usize,
+    r: Range,
+) -> Went
+    ensures { λ x. ⌜ ((k : ℕ) → Body (now (sheet .entry)) (now (text .entry)) base left Input k r at (mem (now (list .entry)) (now (notes .entry)) (now (book .entry)) st) (mem (now (list .exit)) (now (notes .exit)) (now (book .exit)) (x .st)) (x .at)) ⌝ }
+{
+    let q = behind_source(sheet, at, left);
+    let file = is_file(sheet, at);
+    let c = expressions::expr::count_at(sheet, q);
+    let x = input_vars(
+        sheet,
+        text,
+        list,
+        notes,
+        book,
+        st,
+        base,
+        c.at,
+        c.count,
+        left,
+        file,
+    );
+    let xs = x.st;
+    let s = input_source(
+        sheet,
+        text,
+        list,
+        notes,
+        book,
+        xs,
+        base,
+        at,
+        left,
+        r,
+        c.count,
+    );
+    Went { st: s, at: x.at }
+}

@@ -1,0 +1,2 @@
+// Statements compiled: INPUT of compiler.rs.
+pub mod input;

@@ -1,0 +1,2 @@
+// Statements compiled: GOSUB, GOTO, RESTORE and ON of compile_stmt of compiler.rs.
+pub mod jump;

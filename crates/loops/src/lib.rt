@@ -1,0 +1,2 @@
+// Statements compiled: FOR and NEXT of compiler.rs.
+pub mod count;

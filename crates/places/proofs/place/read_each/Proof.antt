@@ -1,0 +1,89 @@
+use borrow.Author.Needs.{needs}
+use native.Mathlib.Omega.{arith}
+use mathlib.Core.Path.{_≡_, refl, _∙_}
+use Prim.Native.Nat.{_≤_}
+use lib.ListN.{length}
+use Rattle.recorder.specs.Mem.{mem, memR}
+use Rattle.sheet.specs.declared.form.Sort.the-variants.{Place as placeSort}
+use Rattle.sheet.specs.Skip.{skipNode, skipRepeat}
+use Rattle.sheet.specs.Tree.{exprAt, exprsAt}
+use Rattle.rules.specs.Stmt.{compileRead}
+use Rattle.nodes.proofs.Laws.{put-at}
+use Rattle.places.proofs.PlaceLaws.{read-place, read-step, read-done}
+use Rattle.places.proofs.place.read_each.Statement.{statement}
+use Rattle.places.proofs.place.read_each.Tie as tie
+use Rattle.places.proofs.place.read_each.Reads as reads
+use Rattle.places.proofs.place.read_each.Lts as lts
+use Rattle.expressions.proofs.expr.compile_lvalue.Reads as compile-lvalue-reads
+use Rattle.expressions.proofs.expr.expr_range.Reads as expr-range-reads
+use Rattle.recorder.proofs.codegen.emit_read.Reads as emit-read-reads
+
+abbrev Inv-loop : tie.InvT-loop
+Inv-loop sheet text list₀ notes₀ book₀ base at n left s₀ p₀ more₀ list notes book s p more = (length list ≡ length list₀) × (length notes ≡ length notes₀) × (length book ≡ length book₀)
+    × (skipRepeat sheet (skipNode sheet left placeSort) more p ≡ skipRepeat sheet (skipNode sheet left placeSort) n at)
+    × (compileRead (memR text) text base (exprsAt sheet (exprAt sheet left) (skipNode sheet left placeSort) more p) (mem list notes book s) ≡ compileRead (memR text) text base (exprsAt sheet (exprAt sheet left) (skipNode sheet left placeSort) n at) (mem list₀ notes₀ book₀ s₀))
+
+abbrev μ-loop : tie.MeasureT-loop
+μ-loop sheet text list₀ notes₀ book₀ base at n left s₀ p₀ more₀ list notes book s p more = more
+
+-- src/place.rt:208:5
+loop-holds : tie.Need-loop-holds Inv-loop μ-loop
+loop-holds c = (refl, refl, refl, refl, refl)
+
+-- src/place.rt:209:13
+compile-lvalue-requires : tie.Need-compile-lvalue-requires Inv-loop μ-loop
+compile-lvalue-requires c κs = search needs
+
+-- src/place.rt:211:13
+expr-range-requires : tie.Need-expr-range-requires Inv-loop μ-loop
+expr-range-requires c κs = search needs
+
+-- src/place.rt:212:9
+emit-read-requires : tie.Need-emit-read-requires Inv-loop μ-loop
+emit-read-requires c κs = search needs
+
+-- src/place.rt:214:9
+sub-more : tie.Need-sub-more Inv-loop μ-loop
+sub-more c = omega arith
+
+-- src/place.rt:208:5
+loop-less : tie.Need-loop-less Inv-loop μ-loop
+loop-less c = omega arith
+
+-- src/place.rt:208:5
+loop-again : tie.Need-loop-again Inv-loop μ-loop
+loop-again c = ((c .before .before .emit-read .kept .0) ∙ (c .before .before .before .before .before .before .before .before .before .before .before .before .compile-lvalue .kept .1 .1 .0) ∙ (c .before .before .before .before .before .before .before .before .before .before .before .before .before .before .before .before .before .loop .inv .0), (c .before .before .before .before .before .before .before .before .before .before .before .before .compile-lvalue .kept .1 .1 .1 .0) ∙ (c .before .before .before .before .before .before .before .before .before .before .before .before .before .before .before .before .before .loop .inv .1), (c .before .before .before .before .before .before .before .before .before .before .before .before .compile-lvalue .kept .1 .1 .1 .1 .0) ∙ (c .before .before .before .before .before .before .before .before .before .before .before .before .before .before .before .before .before .loop .inv .2), read-place _ _ _ _ _ _ _ _ _ _ (c .before .before .before .before .before .before .before .before .before .before .before .before .before .before .before .before .loop-test .taken) (c .before .before .before .before .before .before .before .before .before .before .before .before .compile-lvalue .ensures) ∙ (c .before .before .before .before .before .before .before .before .before .before .before .before .before .before .before .before .before .loop .inv .3), read-step _ _ _ _ _ _ _ _ _ _ _ _ (c .before .before .before .before .before .before .before .before .before .before .before .before .before .before .before .before .loop-test .taken) (c .before .before .before .before .before .before .before .before .before .before .before .before .compile-lvalue .ensures) (c .before .before .before .before .expr-range .ensures) (put-at _ _ _ _ _ _ _ _ _ _ _ (c .before .before .emit-read .ensures)) ∙ (c .before .before .before .before .before .before .before .before .before .before .before .before .before .before .before .before .before .loop .inv .4))
+
+-- src/place.rt:191:1
+same-length : tie.Need-same-length Inv-loop μ-loop
+same-length c = (c .before .loop .inv .0)
+
+-- src/place.rt:191:1
+same-length-2 : tie.Need-same-length-2 Inv-loop μ-loop
+same-length-2 c = (c .before .loop .inv .1)
+
+-- src/place.rt:191:1
+same-length-3 : tie.Need-same-length-3 Inv-loop μ-loop
+same-length-3 c = (c .before .loop .inv .2)
+
+-- src/place.rt:191:1
+returns : tie.Need-returns Inv-loop μ-loop
+returns c = read-done _ _ _ _ _ _ _ _ _ _ (c .loop-test .left) (c .before .loop .inv .3) (c .before .loop .inv .4)
+
+pub read-each-spec : {M : Type 1} → statement M
+read-each-spec =
+    tie.close
+    (tie.spec
+    Inv-loop
+    μ-loop
+    loop-holds
+    compile-lvalue-requires
+    expr-range-requires
+    emit-read-requires
+    sub-more
+    loop-less
+    loop-again
+    same-length
+    same-length-2
+    same-length-3
+    returns)

@@ -1,0 +1,45 @@
+use mathlib.Core.Path.{_∙_}
+use Rattle.nodes.proofs.Laws.{put-at}
+use Rattle.prints.proofs.PrintLaws.{print-of}
+use borrow.Author.Needs.{needs}
+use Rattle.prints.proofs.prints.compile_print.Statement.{statement}
+use Rattle.prints.proofs.prints.compile_print.Tie as tie
+use Rattle.prints.proofs.prints.compile_print.Reads as reads
+use Rattle.prints.proofs.prints.compile_print.Lts as lts
+
+count-at-requires : tie.Need-count-at-requires
+count-at-requires c κs = search needs
+
+print-each-requires : tie.Need-print-each-requires
+print-each-requires c κs = search needs
+
+empty-line-requires : tie.Need-empty-line-requires
+empty-line-requires c κs = search needs
+
+emit-flush-requires : tie.Need-emit-flush-requires
+emit-flush-requires c κs = search needs
+
+same-length : tie.Need-same-length
+same-length c = (c .before .before .emit-flush .kept .0) ∙ (c .before .before .before .before .before .before .empty-line .kept .0) ∙ (c .before .before .before .before .before .before .before .before .before .before .before .before .before .before .before .print-each .kept .1 .1 .0)
+
+same-length-2 : tie.Need-same-length-2
+same-length-2 c = (c .before .before .before .before .before .before .before .before .before .before .before .before .before .before .before .print-each .kept .1 .1 .1 .0)
+
+same-length-3 : tie.Need-same-length-3
+same-length-3 c = (c .before .before .before .before .before .before .before .before .before .before .before .before .before .before .before .print-each .kept .1 .1 .1 .1 .0)
+
+returns : tie.Need-returns
+returns c = print-of _ _ _ _ _ _ _ _ _ _ _ _ _ _ (c .before .before .before .before .before .before .before .before .before .before .before .before .before .before .before .before .before .before .before .count-at .ensures) (c .before .before .before .before .before .before .before .before .before .before .before .before .before .before .before .print-each .ensures) ((c .before .before .before .before .before .before .empty-line .ensures) (c .before .before .before .before .before .before .before .before .before .before .before .before .before .before .before .before .before .before .before .before .before .before .before .before .before .args .text .now) _ _) (put-at _ _ _ _ _ _ _ _ _ _ _ (c .before .before .emit-flush .ensures))
+
+pub compile-print-spec : {M : Type 1} → statement M
+compile-print-spec =
+    tie.close
+    (tie.spec
+    count-at-requires
+    print-each-requires
+    empty-line-requires
+    emit-flush-requires
+    same-length
+    same-length-2
+    same-length-3
+    returns)

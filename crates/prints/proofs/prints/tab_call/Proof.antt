@@ -1,0 +1,52 @@
+use mathlib.Core.Path.{_∙_}
+use Rattle.prints.proofs.PrintLaws.{tab-of}
+use borrow.Author.Needs.{needs}
+use Rattle.prints.proofs.prints.tab_call.Statement.{statement}
+use Rattle.prints.proofs.prints.tab_call.Tie as tie
+use Rattle.prints.proofs.prints.tab_call.Reads as reads
+use Rattle.prints.proofs.prints.tab_call.Lts as lts
+
+behind-requires : tie.Need-behind-requires
+behind-requires c κs = search needs
+
+count-at-requires : tie.Need-count-at-requires
+count-at-requires c κs = search needs
+
+count-at-requires-2 : tie.Need-count-at-requires-2
+count-at-requires-2 c κs = search needs
+
+surplus-notes-requires : tie.Need-surplus-notes-requires
+surplus-notes-requires c κs = search needs
+
+compile-args-requires : tie.Need-compile-args-requires
+compile-args-requires c κs = search needs
+
+tab-emit-requires : tie.Need-tab-emit-requires
+tab-emit-requires c κs = search needs
+
+same-length : tie.Need-same-length
+same-length c = (c .before .before .tab-emit .kept .0) ∙ (c .before .before .before .before .before .before .before .before .before .before .before .compile-args .kept .1 .1 .0)
+
+same-length-2 : tie.Need-same-length-2
+same-length-2 c = (c .before .before .before .before .before .before .before .before .before .before .before .compile-args .kept .1 .1 .1 .0) ∙ (c .before .before .before .before .before .before .before .before .before .before .before .before .before .before .before .before .before .surplus-notes .kept .1 .0)
+
+same-length-3 : tie.Need-same-length-3
+same-length-3 c = (c .before .before .before .before .before .before .before .before .before .before .before .compile-args .kept .1 .1 .1 .1 .0)
+
+returns : tie.Need-returns
+returns c = tab-of _ _ _ _ _ _ _ _ _ _ _ _ _ _ _ _ (c .before .before .before .before .before .before .before .before .before .before .before .before .before .before .before .before .before .before .before .before .before .behind .ensures) (c .before .before .before .before .before .before .before .before .before .before .before .before .before .before .before .before .before .before .before .before .count-at .ensures) (c .before .before .before .before .before .before .before .before .before .before .before .before .before .before .before .before .before .before .before .count-at2 .ensures) ((c .before .before .before .before .before .before .before .before .before .before .before .before .before .before .before .before .before .surplus-notes .ensures) _ _ _ _) (c .before .before .before .before .before .before .before .before .before .before .before .compile-args .ensures) ((c .before .before .tab-emit .ensures) (c .before .before .before .before .before .before .before .before .before .before .before .before .before .before .before .before .before .before .before .before .before .before .before .before .before .before .before .args .text .now) _ _)
+
+pub tab-call-spec : {M : Type 1} → statement M
+tab-call-spec =
+    tie.close
+    (tie.spec
+    behind-requires
+    count-at-requires
+    count-at-requires-2
+    surplus-notes-requires
+    compile-args-requires
+    tab-emit-requires
+    same-length
+    same-length-2
+    same-length-3
+    returns)

@@ -1,0 +1,40 @@
+use Rattle.nodes.proofs.Laws.{put-at}
+use Rattle.prints.proofs.WriteLaws.{dropped-number, dropped-text}
+use borrow.Author.Needs.{needs}
+use Rattle.prints.proofs.writes.dropped_call.Statement.{statement}
+use Rattle.prints.proofs.writes.dropped_call.Tie as tie
+use Rattle.prints.proofs.writes.dropped_call.Reads as reads
+use Rattle.prints.proofs.writes.dropped_call.Lts as lts
+
+matches-requires : tie.Need-matches-requires
+matches-requires c κs = search needs
+
+emit-pop-num-requires : tie.Need-emit-pop-num-requires
+emit-pop-num-requires c κs = search needs
+
+emit-pop-str-requires : tie.Need-emit-pop-str-requires
+emit-pop-str-requires c κs = search needs
+
+same-length : tie.Need-same-length
+same-length c = search needs
+
+returns : tie.Need-returns
+returns c = λ t o b. dropped-number t _ (c .before .before .before .before .before .before .before .args .ty) _ _ _ (c .before .before .before .before .before .matches .ensures) (c .before .before .before .before .if1 .taken) (put-at _ _ _ _ _ _ _ _ _ _ _ (c .before .before .emit-pop-num .ensures))
+
+same-length-2 : tie.Need-same-length-2
+same-length-2 c = search needs
+
+returns-2 : tie.Need-returns-2
+returns-2 c = λ t o b. dropped-text t _ (c .before .before .before .before .before .before .before .args .ty) _ _ _ (c .before .before .before .before .before .matches .ensures) (c .before .before .before .before .if1 .left) (put-at _ _ _ _ _ _ _ _ _ _ _ (c .before .before .emit-pop-str .ensures))
+
+pub dropped-call-spec : {M : Type 1} → statement M
+dropped-call-spec =
+    tie.close
+    (tie.spec
+    matches-requires
+    emit-pop-num-requires
+    emit-pop-str-requires
+    same-length
+    returns
+    same-length-2
+    returns-2)

@@ -1,0 +1,3 @@
+// Statements compiled: PRINT and WRITE of compiler.rs.
+pub mod prints;
+pub mod writes;

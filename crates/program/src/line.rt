@@ -1,0 +1,142 @@
+// The lines of a program: compile_prog of compiler.rs.
+use jumps::jump::OptTarget;
+use recorder::codegen::St;
+ghost use mathlib.Core.Path.{_≡_};
+ghost use mathlib.Core.List.{List};
+ghost use Prim.Native.Nat.{ℕ, _*_, _≤_};
+ghost use lib.ListN.{length, replicate};
+ghost use Rattle.recorder.specs.Word.{payloadAt};
+ghost use Rattle.recorder.specs.Mem.{mem, memR};
+ghost use Rattle.rules.specs.Program.{lastLabel, labelNote};
+ghost use Rattle.program.specs.Line.{labelledOf, lineWords, lineCount, stillRising, CompiledLine, Programmed};
+
+// How far the lines are compiled: where the next one is, how many labelled ones there are so far, the last label plus 1 (0 before
+// the first), where the next line begins in the text, and whether labels rose.
+pub struct Lines {
+    pub st: St,
+    pub at: usize,
+    pub marks: usize,
+    pub last: u32,
+    pub base: u32,
+    pub rising: bool,
+}
+
+// The lines compiled, the labelled ones in lent work: how many there are, and whether their labels rise.
+pub struct Program {
+    pub st: St,
+    pub marks: usize,
+    pub rising: bool,
+}
+
+// "1 labels not rising"
+fn label_note(notes: &mut [u32], st: St, last: u32, o: OptTarget) -> St
+    ensures { λ x. ⌜ ((t l b : List ℕ) (base : ℕ) → mem l (now (notes .exit)) b x ≡ labelNote (memR t) t base last (labelledOf o) (mem l (now (notes .entry)) b st)) ⌝ }
+{
+    let OptTarget::Given(r, l) = o else {
+        return st;
+    };
+    if (l.0 as u32) < last {
+        return recorder::codegen::note(notes, st, 1, r, 1);
+    }
+    st
+}
+
+// A labelled line goes into work: the address before its records, and the first datum that it made. Returns how many there are.
+fn mark_line(work: &mut [u32], n: usize, o: OptTarget, before: St, after: St) -> usize
+    ensures { λ x. ⌜ (now (work .exit) ≡ lineWords (labelledOf o) (before .records) (after .first) (now (work .entry)) n) × (x ≡ lineCount (labelledOf o) (now (work .entry)) n) ⌝ }
+{
+    let OptTarget::Given(_, l) = o else {
+        return n;
+    };
+    let addr = recorder::codegen::current_addr(before);
+    closing::marks::put_mark(work, n, l, addr, after.first)
+}
+
+fn last_label(last: u32, o: OptTarget) -> u32
+    ensures { λ x. ⌜ x ≡ lastLabel last (labelledOf o) ⌝ }
+{
+    let OptTarget::Given(_, l) = o else {
+        return last;
+    };
+    (l.0 as u32) + 1
+}
+
+fn still_rising(rising: bool, last: u32, o: OptTarget) -> bool
+    ensures { λ x. ⌜ x ≡ stillRising last (labelledOf o) rising ⌝ }
+{
+    let OptTarget::Given(_, l) = o else {
+        return rising;
+    };
+    if last <= (l.0 as u32) {
+        return rising;
+    }
+    false
+}
+
+// One line: its length, its label, its statements.
+fn compile_line(
+    sheet: &[u32],
+    text: &[u16],
+    list: &mut [u32],
+    notes: &mut [u32],
+    book: &mut [u32],
+    work: &mut [u32],
+    c: Lines,
+    line: u32,
+) -> Lines
+    ensures { λ x. ⌜ CompiledLine (now (sheet .entry)) (now (text .entry)) line c x (mem (now (list .entry)) (now (notes .entry)) (now (book .entry)) (c .st)) (mem (now (list .exit)) (now (notes .exit)) (now (book .exit)) (x .st)) (now (work .entry)) (now (work .exit)) ⌝ }
+{
+    let cs = c.st;
+    let length = sheet::reader::line_length(sheet, c.at);
+    let p = sheet::reader::label_place(sheet, c.at);
+    let o = jumps::jump::target_at(sheet, p);
+    let q = jumps::jump::behind_target(sheet, p);
+    let s = recorder::codegen::begin_line(cs, line);
+    let noted = label_note(notes, s, c.last, o);
+    let w = statements::stmt::compile_stmts(sheet, text, list, notes, book, noted, c.base, q, 64);
+    let ws = w.st;
+    let marks = mark_line(work, c.marks, o, cs, ws);
+    Lines {
+        st: ws,
+        at: w.at,
+        marks,
+        last: last_label(c.last, o),
+        base: rules::name::text_place(c.base, length),
+        rising: still_rising(c.rising, c.last, o),
+    }
+}
+
+// All lines, in order. The work is zeros before, with three words for each line.
+pub fn compile_prog(
+    sheet: &[u32],
+    text: &[u16],
+    list: &mut [u32],
+    notes: &mut [u32],
+    book: &mut [u32],
+    work: &mut [u32],
+    st: St,
+) -> Program
+    ensures { λ x. ⌜ (now (work .entry) ≡ replicate (length (now (work .entry))) 0 → 3 * payloadAt (now (sheet .entry)) 0 ≤ length (now (work .entry)) → Programmed (now (sheet .entry)) (now (text .entry)) (mem (now (list .entry)) (now (notes .entry)) (now (book .entry)) st) (mem (now (list .exit)) (now (notes .exit)) (now (book .exit)) (x .st)) (now (work .exit)) (x .marks) (x .rising)) ⌝ }
+{
+    let count = recorder::word::payload_at(sheet, 0);
+    let at = recorder::word::behind(sheet, 0);
+    let mut c = Lines {
+        st,
+        at,
+        marks: 0,
+        last: 0,
+        base: 0,
+        rising: true,
+    };
+    let mut line: u32 = 0;
+    while line < count {
+        c = compile_line(sheet, text, list, notes, book, work, c, line);
+        line += 1;
+    }
+    let s = c.st;
+    Program {
+        st: s,
+        marks: c.marks,
+        rising: c.rising,
+    }
+}

@@ -1,0 +1,38 @@
+use Rattle.recorder.proofs.Laws.{seek-reached, seek-past}
+use borrow.Author.Needs.{needs}
+use Rattle.recorder.proofs.codegen.seek.Statement.{statement}
+use Rattle.recorder.proofs.codegen.seek.Tie as tie
+use Rattle.recorder.proofs.codegen.seek.Reads as reads
+use Rattle.recorder.proofs.codegen.seek.Lts as lts
+use Rattle.recorder.proofs.codegen.find.Reads as find-reads
+use Rattle.recorder.proofs.codegen.is_reached.Reads as is-reached-reads
+use Rattle.recorder.proofs.codegen.least.Reads as least-reads
+
+-- src/codegen.rt:597:9
+least-requires : tie.Need-least-requires
+least-requires c κs = search needs
+
+-- src/codegen.rt:598:8
+is-reached-requires : tie.Need-is-reached-requires
+is-reached-requires c κs = search needs
+
+-- src/codegen.rt:599:9
+returns : tie.Need-returns
+returns c = seek-reached (c .before .before .before .before .before .args .text .now) (c .before .before .before .before .before .args .book .now) (c .before .before .before .before .before .args .st) (c .before .before .before .before .before .args .start) (c .before .before .before .before .before .args .len) (c .before .before .before .before .before .args .sigil) _ (c .before .before .before .before .before .args .at) _ (c .before .before .least .ensures) (c .before .is-reached .ensures) (c .if1 .taken)
+
+-- src/codegen.rt:601:41
+least-requires-2 : tie.Need-least-requires-2
+least-requires-2 c κs = search needs
+
+-- src/codegen.rt:601:5
+find-requires : tie.Need-find-requires
+find-requires c κs = search needs
+
+-- src/codegen.rt:586:1
+returns-2 : tie.Need-returns-2
+returns-2 c = seek-past (c .before .before .before .before .before .before .before .args .text .now) (c .before .before .before .before .before .before .before .args .book .now) (c .before .before .before .before .before .before .before .args .st) (c .before .before .before .before .before .before .before .args .start) (c .before .before .before .before .before .before .before .args .len) (c .before .before .before .before .before .before .before .args .sigil) _ (c .before .before .before .before .before .before .before .args .at) _ _ _ (c .before .before .before .before .least .ensures) (c .before .before .before .is-reached .ensures) (c .before .before .if1 .left) (c .before .least2 .ensures) (c .find .ensures)
+
+pub seek-spec : {M : Type 1} → statement M
+seek-spec =
+    tie.close
+    (tie.spec least-requires is-reached-requires returns least-requires-2 find-requires returns-2)

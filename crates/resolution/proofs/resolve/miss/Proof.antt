@@ -1,0 +1,44 @@
+use Rattle.resolution.proofs.ResolveLaws.{missed}
+use borrow.Author.Needs.{needs}
+use Rattle.resolution.proofs.resolve.miss.Statement.{statement}
+use Rattle.resolution.proofs.resolve.miss.Tie as tie
+use Rattle.resolution.proofs.resolve.miss.Reads as reads
+use Rattle.resolution.proofs.resolve.miss.Lts as lts
+use Rattle.resolution.proofs.resolve.unpacked.Reads as unpacked-reads
+use Rattle.recorder.proofs.codegen.note_at.Reads as note-at-reads
+use Rattle.recorder.proofs.codegen.unsettle.Reads as unsettle-reads
+
+-- src/resolve.rt:74:5
+unsettle-requires : tie.Need-unsettle-requires
+unsettle-requires c κs = search needs
+
+-- src/resolve.rt:75:9
+unpacked-requires : tie.Need-unpacked-requires
+unpacked-requires c κs = search needs
+
+-- src/resolve.rt:76:5
+note-at-requires : tie.Need-note-at-requires
+note-at-requires c κs = search needs
+
+-- src/resolve.rt:63:1
+same-length : tie.Need-same-length
+same-length c = search needs
+
+-- src/resolve.rt:63:1
+same-length-2 : tie.Need-same-length-2
+same-length-2 c = search needs
+
+-- src/resolve.rt:63:1
+returns : tie.Need-returns
+returns c = λ t b. missed t b _ _ _ _ _ _ _ _ _ (c .before .before .before .before .before .before .before .before .before .before .before .args .q) _ (c .before .before .before .before .before .before .before .unsettle .ensures) (c .before .before .before .before .unpacked .ensures) (c .before .before .note-at .ensures)
+
+pub miss-spec : {M : Type 1} → statement M
+miss-spec =
+    tie.close
+    (tie.spec
+    unsettle-requires
+    unpacked-requires
+    note-at-requires
+    same-length
+    same-length-2
+    returns)

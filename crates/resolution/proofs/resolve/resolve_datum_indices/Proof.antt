@@ -1,0 +1,70 @@
+use borrow.Author.Needs.{needs}
+use native.Mathlib.Omega.{arith}
+use mathlib.Core.Path.{_≡_, refl, _∙_}
+use mathlib.Core.List.{List}
+use Prim.Native.Nat.{ℕ, _-_}
+use lib.ListN.{length}
+use Rattle.recorder.specs.Marks.{Mark}
+use Rattle.recorder.specs.Mem.{mem, memR}
+use Rattle.rules.specs.Program.{resolveDatumIndices}
+use Rattle.closing.specs.Marked.{MarksIn}
+use Rattle.resolution.proofs.ResolveLaws.{indices-step, from-start, indices-done}
+use Rattle.resolution.proofs.resolve.resolve_datum_indices.Statement.{statement}
+use Rattle.resolution.proofs.resolve.resolve_datum_indices.Tie as tie
+use Rattle.resolution.proofs.resolve.resolve_datum_indices.Reads as reads
+use Rattle.resolution.proofs.resolve.resolve_datum_indices.Lts as lts
+use Rattle.resolution.proofs.resolve.settle_restore.Reads as settle-restore-reads
+
+abbrev Inv-loop : tie.InvT-loop
+Inv-loop list₀ notes₀ work n rising count s₀ k₀ list notes s k = (length list ≡ length list₀) × (length notes ≡ length notes₀)
+    × ((t b : List ℕ) (ms : List Mark) → MarksIn work n rising ms → resolveDatumIndices (memR t) ms k (count - k) (mem list notes b s) ≡ resolveDatumIndices (memR t) ms 0 count (mem list₀ notes₀ b s₀))
+
+abbrev μ-loop : tie.MeasureT-loop
+μ-loop list₀ notes₀ work n rising count s₀ k₀ list notes s k = count - k
+
+-- src/resolve.rt:168:5
+loop-holds : tie.Need-loop-holds Inv-loop μ-loop
+loop-holds c = (refl, refl, λ t b ms h. from-start (λ (z : ℕ). resolveDatumIndices (memR t) ms 0 z (mem (c .before .before .before .args .list .now) (c .before .before .before .args .notes .now) b (c .before .before .before .args .st))) _)
+
+-- src/resolve.rt:169:9
+settle-restore-requires : tie.Need-settle-restore-requires Inv-loop μ-loop
+settle-restore-requires c κs = search needs
+
+-- src/resolve.rt:170:9
+add-k : tie.Need-add-k Inv-loop μ-loop
+add-k c = omega arith
+
+-- src/resolve.rt:168:5
+loop-less : tie.Need-loop-less Inv-loop μ-loop
+loop-less c = omega arith
+
+-- src/resolve.rt:168:5
+loop-again : tie.Need-loop-again Inv-loop μ-loop
+loop-again c = ((c .before .before .before .before .settle-restore .kept .0) ∙ (c .before .before .before .before .before .before .before .before .loop .inv .0), (c .before .before .before .before .settle-restore .kept .1 .0) ∙ (c .before .before .before .before .before .before .before .before .loop .inv .1), λ t b ms h. indices-step t ms _ _ _ _ (c .before .before .before .before .before .before .before .loop-test .taken) ((c .before .before .before .before .settle-restore .ensures) t b ms h) ∙ (c .before .before .before .before .before .before .before .before .loop .inv .2) t b ms h)
+
+-- src/resolve.rt:155:1
+same-length : tie.Need-same-length Inv-loop μ-loop
+same-length c = (c .before .loop .inv .0)
+
+-- src/resolve.rt:155:1
+same-length-2 : tie.Need-same-length-2 Inv-loop μ-loop
+same-length-2 c = (c .before .loop .inv .1)
+
+-- src/resolve.rt:155:1
+returns : tie.Need-returns Inv-loop μ-loop
+returns c = λ t b ms h. indices-done t ms _ _ _ _ (c .loop-test .left) ((c .before .loop .inv .2) t b ms h)
+
+pub resolve-datum-indices-spec : {M : Type 1} → statement M
+resolve-datum-indices-spec =
+    tie.close
+    (tie.spec
+    Inv-loop
+    μ-loop
+    loop-holds
+    settle-restore-requires
+    add-k
+    loop-less
+    loop-again
+    same-length
+    same-length-2
+    returns)

@@ -1,0 +1,192 @@
+// "After the lines: jumps in order of pending, then RESTOREs": resolve_labels and resolve_datum_indices of compiler.rs.
+use closing::marks::Start;
+use closing::marks::Target;
+use recorder::codegen::Looked;
+use recorder::codegen::St;
+use recorder::label::Addr;
+use recorder::label::Label;
+use recorder::word::Range;
+ghost use mathlib.Core.Path.{_≡_};
+ghost use mathlib.Core.List.{List};
+ghost use Prim.Native.Nat.{ℕ};
+ghost use lib.Dec.{eqb};
+ghost use Rattle.recorder.specs.Word.{either};
+ghost use Rattle.recorder.specs.Ideal.{missing};
+ghost use Rattle.recorder.specs.Recorder.{unpack};
+ghost use Rattle.recorder.specs.Marks.{Mark, addrOf, dataOf};
+ghost use Rattle.closing.specs.MarkWords.{targetOf, startOf};
+ghost use Rattle.closing.specs.Marked.{MarksIn};
+ghost use Rattle.recorder.specs.Mem.{Mem, mem, memR, lookAt};
+ghost use Rattle.rules.specs.Program.{Lines, settleBy, settleJump, settleRestore, resolveLabels, resolveDatumIndices, closeUp};
+ghost use Rattle.resolution.specs.Looks.{lookOf};
+
+// The range that a waiting record keeps as one number.
+fn unpacked(c: u32) -> Range
+    ensures { λ x. ⌜ x ≡ unpack c ⌝ }
+{
+    Range {
+        start: (c / 65536) as u16,
+        end: (c % 65536) as u16,
+    }
+}
+
+fn is_jump(call: u32) -> bool
+    ensures { λ x. ⌜ x ≡ either (eqb call 20) (eqb call 21) ⌝ }
+{
+    if call == 20 {
+        return true;
+    }
+    call == 21
+}
+
+// A line's label has 16 bits: no line has a larger one.
+fn target_of(work: &[u32], n: usize, label: u32, rising: bool) -> Target
+    ensures { λ x. ⌜ ((ms : List Mark) → MarksIn (now (work .entry)) n rising ms → x ≡ targetOf (addrOf ms label)) ⌝ }
+{
+    if 65535 < label {
+        return Target::Nowhere;
+    }
+    let l = label as u16;
+    closing::marks::find_label(work, n, Label(l), rising)
+}
+
+fn start_of(work: &[u32], n: usize, label: u32, rising: bool) -> Start
+    ensures { λ x. ⌜ ((ms : List Mark) → MarksIn (now (work .entry)) n rising ms → x ≡ startOf (dataOf ms label)) ⌝ }
+{
+    if 65535 < label {
+        return Start::NoData;
+    }
+    let l = label as u16;
+    closing::marks::find_datum(work, n, Label(l), rising)
+}
+
+// One whose label is nowhere: it waits no more, and its own line gets a note.
+fn miss(
+    list: &mut [u32],
+    notes: &mut [u32],
+    st: St,
+    k: u32,
+    q: Looked,
+    class: u8,
+    severity: u32,
+) -> St
+    ensures { λ x. ⌜ ((t b : List ℕ) → mem (now (list .exit)) (now (notes .exit)) b x ≡ settleBy (memR t) missing class severity k (lookOf q) (mem (now (list .entry)) (now (notes .entry)) b st)) ⌝ }
+{
+    recorder::codegen::unsettle(list, st, Addr(k));
+    let r = unpacked(q.c);
+    recorder::codegen::note_at(notes, st, q.line, class, r, severity)
+}
+
+// "2 target missing"
+fn settle_jump(
+    list: &mut [u32],
+    notes: &mut [u32],
+    work: &[u32],
+    st: St,
+    k: u32,
+    n: usize,
+    rising: bool,
+) -> St
+    ensures { λ x. ⌜ ((t b : List ℕ) (ms : List Mark) → MarksIn (now (work .entry)) n rising ms → mem (now (list .exit)) (now (notes .exit)) b x ≡ settleJump (memR t) ms k (lookAt (now (list .entry)) k) (mem (now (list .entry)) (now (notes .entry)) b st)) ⌝ }
+{
+    let q = recorder::codegen::look(list, Addr(k));
+    let label = q.b;
+    if label == 0 {
+        return st;
+    }
+    if !is_jump(q.call) {
+        return st;
+    }
+    let o = target_of(work, n, label - 1, rising);
+    let Target::At(a) = o else {
+        return miss(list, notes, st, k, q, 2, 1);
+    };
+    recorder::codegen::settle(list, st, Addr(k), a);
+    st
+}
+
+// "3 RESTORE target missing (warning)"
+fn settle_restore(
+    list: &mut [u32],
+    notes: &mut [u32],
+    work: &[u32],
+    st: St,
+    k: u32,
+    n: usize,
+    rising: bool,
+) -> St
+    ensures { λ x. ⌜ ((t b : List ℕ) (ms : List Mark) → MarksIn (now (work .entry)) n rising ms → mem (now (list .exit)) (now (notes .exit)) b x ≡ settleRestore (memR t) ms k (lookAt (now (list .entry)) k) (mem (now (list .entry)) (now (notes .entry)) b st)) ⌝ }
+{
+    let q = recorder::codegen::look(list, Addr(k));
+    let label = q.b;
+    if label == 0 {
+        return st;
+    }
+    if q.call != 31 {
+        return st;
+    }
+    let o = start_of(work, n, label - 1, rising);
+    let Start::From(d) = o else {
+        return miss(list, notes, st, k, q, 3, 2);
+    };
+    recorder::codegen::patch_datum_index(list, st, Addr(k), d);
+    st
+}
+
+pub fn resolve_labels(
+    list: &mut [u32],
+    notes: &mut [u32],
+    work: &[u32],
+    st: St,
+    n: usize,
+    rising: bool,
+) -> St
+    ensures { λ x. ⌜ ((t b : List ℕ) (ms : List Mark) → MarksIn (now (work .entry)) n rising ms → mem (now (list .exit)) (now (notes .exit)) b x ≡ resolveLabels (memR t) ms 0 (st .records) (mem (now (list .entry)) (now (notes .entry)) b st)) ⌝ }
+{
+    let count = st.records;
+    let mut s = st;
+    let mut k: u32 = 0;
+    while k < count {
+        s = settle_jump(list, notes, work, s, k, n, rising);
+        k += 1;
+    }
+    s
+}
+
+pub fn resolve_datum_indices(
+    list: &mut [u32],
+    notes: &mut [u32],
+    work: &[u32],
+    st: St,
+    n: usize,
+    rising: bool,
+) -> St
+    ensures { λ x. ⌜ ((t b : List ℕ) (ms : List Mark) → MarksIn (now (work .entry)) n rising ms → mem (now (list .exit)) (now (notes .exit)) b x ≡ resolveDatumIndices (memR t) ms 0 (st .records) (mem (now (list .entry)) (now (notes .entry)) b st)) ⌝ }
+{
+    let count = st.records;
+    let mut s = st;
+    let mut k: u32 = 0;
+    while k < count {
+        s = settle_restore(list, notes, work, s, k, n, rising);
+        k += 1;
+    }
+    s
+}
+
+// "Closing up": jumps, RESTOREs, then WHILEs, delays and End. The names' links go.
+pub fn close_up(
+    list: &mut [u32],
+    notes: &mut [u32],
+    book: &mut [u32],
+    work: &[u32],
+    st: St,
+    n: usize,
+    rising: bool,
+) -> St
+    ensures { λ x. ⌜ ((t : List ℕ) (c : Lines Mem) → c .state ≡ mem (now (list .entry)) (now (notes .entry)) (now (book .entry)) st → MarksIn (now (work .entry)) n rising (c .marks) → mem (now (list .exit)) (now (notes .exit)) (now (book .exit)) x ≡ closeUp (memR t) c) ⌝ }
+{
+    let jumps = resolve_labels(list, notes, work, st, n, rising);
+    let restores = resolve_datum_indices(list, notes, work, jumps, n, rising);
+    closing::closing::unlink_names(book, restores);
+    closing::closing::clean_up(list, notes, restores)
+}

@@ -1,0 +1,11 @@
+pub mod Hide
+pub mod Simulation
+pub mod Tree
+pub mod Book
+pub mod Sim
+pub mod Change
+pub mod Delays
+pub mod Whiles
+pub mod WhileWords
+pub mod Clean
+pub mod Memory

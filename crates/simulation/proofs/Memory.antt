@@ -1,0 +1,132 @@
+-- The memory's recorder simulates the rules' recorder: the lent words hold what the rules say, as far as it fits.
+use mathlib.Core.Path.{_≡_, refl, sym, ap, _∙_}
+use mathlib.Core.List.{List, [], _++_}
+use mathlib.Core.Bool.{true, false}
+use Prim.Native.Nat.{ℕ, _-_, _/_}
+use lib.ListN.{length, replicate, length-replicate}
+use borrow.Author.Tests.{le-ltb}
+use native.Mathlib.Omega.{arith}
+use Rattle.recorder.specs.declared.codegen.St.{St}
+use Rattle.recorder.specs.Ideal.{rec, Ideal, ideal, howMany}
+use Rattle.recorder.specs.Layout.{fill}
+use Rattle.recorder.specs.Closing.{cleanUp, closeWhiles, openNotes, rulesR}
+use Rattle.recorder.specs.Mem.{Mem, mem, memR, nothing, low, listRoom, present, patchWhiles, cleanUpAll, unlinked}
+use Rattle.simulation.proofs.Hide.{hideRec, hide-number, hide-numbers, allFresh, all-hidden}
+use Rattle.simulation.proofs.Simulation.{Simulation}
+use Rattle.simulation.proofs.Tree.{Tree}
+use Rattle.simulation.proofs.Book.{bares, allSmall}
+use Rattle.simulation.proofs.Sim.{Sim, Held, Later, Fits, Room, held-count, held-fits, same-length, unlinked-exact, listed-look, put-later, put-form, symbol-rest, symbol-later, datum-stays, byte-stays, sim-line, sim-emit, sim-note-at, sim-note, sim-datum, sim-byte, sim-symbol, sim-symbol-number, sim-patch, sim-patch-end, sim-settle, sim-settle-number, sim-unsettle, note-same, note-stays}
+use Rattle.simulation.proofs.Delays.{Holds}
+use Rattle.simulation.proofs.WhileWords.{Opened}
+use Rattle.simulation.proofs.Clean.{Done, hide-notes, same-records, whiles-are, clean-done}
+
+-- Zeros everywhere hold nothing.
+pub sim-start : (t : List ℕ) (L N B : ℕ) → Sim t L N B (ideal [] [] [] 0 0) (mem (replicate L 0) (replicate N 0) (replicate B 0) nothing)
+unfolding allSmall allFresh howMany bares
+sim-start t L N B = record {
+  listed = record { long = length-replicate L 0; held = none (listRoom L); same = λ f. record { rs = []; words-are = empty L; hidden = refl } };
+  noted = record { long = length-replicate N 0; held = none (N / 4); same = λ f. empty N };
+  booked = record {
+    long = length-replicate B 0;
+    held = none (B / 4);
+    small = refl;
+    written = λ f. record { qs = []; words-are = empty B; bare-are = refl; tree = no-tree };
+    counted = λ f. record { names-are = refl; datums-are = refl; bytes-are = refl };
+  };
+  line = refl;
+  first-none = refl;
+  first-is = λ f. refl;
+  whole = refl;
+}
+  where
+    none : (cap : ℕ) → Held cap 0 0 false
+    none cap = record { number = omega arith; flag = sym (le-ltb cap 0 (omega arith)) }
+
+    no-tree : Tree t (replicate B 0) 0 0
+    no-tree = record {
+      none = λ z k l m e. omega arith;
+      first = λ w. absurd (omega arith);
+      reached = λ w. absurd (omega arith);
+      links = λ k l. absurd (omega arith);
+      sigils = λ k l. absurd (omega arith);
+    }
+
+    empty : (size : ℕ) → replicate size 0 ≡ fill size []
+    empty size = let e : size ≡ size - 0 = omega arith in ap (λ (n : ℕ). replicate n 0) e
+
+module _ (L N B : ℕ) (t : List ℕ) where
+  pub sim-clean : (i : Ideal) (m : Mem) → Sim t L N B i m → Room L m → Done L N B (rulesR t .cleanUp i) (memR t .cleanUp m)
+  unfolding cleanUpAll
+  sim-clean i m s r =
+      let q = s .listed .same (r .0) in
+      let n = same-length q in
+      let c = held-count (s .listed .held) (r .0) in
+      let f = held-fits (s .listed .held) (r .0) in
+      let h : Holds L (q .rs) (m .list) = record { words-are = q .words-are; long = s .listed .long; room = omega arith } in
+      let w : allFresh (q .rs) ≡ true = sym (all-hidden (m .st .bfull) (q .rs)) ∙ ap allFresh (q .hidden) ∙ all-hidden (m .st .bfull) (i .records) ∙ s .whole in
+      let p : present (m .list) (m .st) ≡ length (q .rs) = omega (arith, s .listed .long) in
+      let o : openNotes (q .rs) ≡ openNotes (i .records) = sym (hide-notes (m .st .bfull) (q .rs)) ∙ ap openNotes (q .hidden) ∙ hide-notes (m .st .bfull) (i .records) in
+      let O : Opened L N (closeWhiles (q .rs) 0) (i .notes ++ openNotes (i .records)) (m .st) (patchWhiles (m .list) (m .notes) (m .st)) =
+      rw o at (whiles-are L N (q .rs) (i .notes) (m .list) (m .notes) (m .st) h w (s .noted) p) in
+      clean-done L N B i (q .rs) (m .st) (patchWhiles (m .list) (m .notes) (m .st)) O (s .listed .held) (r .0) (r .1) n (s .line) (unlinked (m .book) (m .st))
+      (λ z. same-records (m .st .bfull) (q .rs) (i .records) z (q .hidden)) (unlinked-exact t B (i .entries) (m .book) (m .st) (s .booked))
+
+  abbrev pub memory-simulates : Simulation (rulesR t) (memR t)
+  memory-simulates = record {
+    Sim = Sim t L N B;
+    Number = λ m x y. m .st .bfull ≡ false → x ≡ y;
+    Place = λ m x y. m .st .lfull ≡ false → x ≡ y;
+    Later = Later;
+    later-refl = λ m. (λ e. e, λ e. e);
+    later-trans = λ a b c p q. (λ e. p .0 (q .0 e), λ e. p .1 (q .1 e));
+    number-refl = λ m x e. refl;
+    number-later = λ m n x y p q e. q (p .1 e);
+    number-map = λ m f x y q e. ap f (q e);
+    place-refl = λ m x e. refl;
+    place-later = λ m n x y p q e. q (p .0 e);
+    Fits = Fits;
+    fits-later = λ m n p e. p .0 e;
+    place-is = λ m x y f q. q f;
+    Room = Room L;
+    room-fits = λ m r. r .0;
+    beginLine = (sim-line L N B t cleanUp);
+    beginLine-later = λ m l. (λ e. e, λ e. e);
+    emit = λ i m k r a b c w s. (sim-emit L N B t cleanUp) i m k r a a b b c w s (λ f. refl);
+    emit-number = λ i m k r a a′ b c w n s q. (sim-emit L N B t cleanUp) i m k r a a′ b b c w s (λ f. sym (hide-number (m .st .bfull) k (m .st .line) r a a′ b c n q));
+    emit-numbers = λ i m k r a a′ b b′ c w n n2 s q o. (sim-emit L N B t cleanUp) i m k r a a′ b b′ c w s (λ f. sym (hide-numbers (m .st .bfull) k (m .st .line) r a a′ b b′ c n n2 q o));
+    emit-place = λ i m k r a a′ b c w s q. (sim-emit L N B t cleanUp) i m k r a a′ b b c w s (λ f. ap (λ (z : ℕ). hideRec (m .st .bfull) (rec k (m .st .line) r z b c)) (sym (q f)));
+    emit-later = λ m k r a b c. (put-later (m .list) (m .st), rw (put-form (m .list) (m .st)) (λ e. e));
+    count = λ i m s e. held-count (s .listed .held) e;
+    note = (sim-note L N B t cleanUp);
+    note-later = λ m k r v. (note-stays L N B t cleanUp) m;
+    noteAt = (sim-note-at L N B t cleanUp);
+    noteAt-later = λ m l k r v. (note-stays L N B t cleanUp) m;
+    symbol = (sim-symbol L N B t cleanUp);
+    symbol-number = λ i m x n g p s f. (sim-symbol-number L N B t cleanUp) i m x n g p s f;
+    symbol-later = λ m x n g. (λ e. sym (symbol-rest (λ (z : St). z .lfull) t (m .book) (m .st) x n g (λ e k r c. refl)) ∙ e, symbol-later t (m .book) (m .st) x n g);
+    datum = (sim-datum L N B t cleanUp);
+    datum-later = λ m x n q. datum-stays (m .book) (m .st);
+    firstDatum = λ i m s. s .first-is;
+    firstDatum-none = λ i m s. s .first-none;
+    byte = (sim-byte L N B t cleanUp);
+    byte-later = λ m x n v. byte-stays (m .book) (m .st);
+    nextByte = λ i m s f. ap low (sym (s .booked .counted f .bytes-are));
+    patch = (sim-patch L N B t cleanUp);
+    patch-later = λ m k v. (λ e. e, λ e. e);
+    patchEnd = (sim-patch-end L N B t cleanUp);
+    patchEnd-later = λ m k v. (λ e. e, λ e. e);
+    look = λ i m k s f. listed-look L (i .records) (m .list) (m .st .records) (m .st .lfull) (m .st .bfull) k (s .listed) f;
+    settle = (sim-settle L N B t cleanUp);
+    settle-number = (sim-settle-number L N B t cleanUp);
+    settle-later = λ m k v. (λ e. e, λ e. e);
+    unsettle = (sim-unsettle L N B t cleanUp);
+    unsettle-later = λ m k. (λ e. e, λ e. e);
+    noteAt-fits = λ m l k r v f. (note-same L N B t cleanUp) (λ (z : St). z .lfull) m (λ e c. refl) ∙ f;
+    settle-fits = λ m k v f. f;
+    unsettle-fits = λ m k f. f;
+    noteAt-room = λ m l k r v f. ((note-same L N B t cleanUp) (λ (z : St). z .lfull) m (λ e c. refl) ∙ f .0, rw ((note-same L N B t cleanUp) (λ (z : St). z .records) m (λ e c. refl)) (f .1));
+    settle-room = λ m k v f. f;
+    unsettle-room = λ m k f. f;
+    Done = Done L N B;
+    cleanUp = sim-clean;
+  }

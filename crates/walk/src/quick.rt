@@ -1,0 +1,313 @@
+// The form walked for acceptance alone: each function gives the place behind a part, or 0 where the walk stops. stmt.rt's walk
+// tells the first offence, so both are needed: returning one number, where the other returns a `Walk` through memory, halves
+// the time of the check. A sheet that is refused is walked by both.
+use sheet::expr::take_word;
+use sheet::form::Field;
+use sheet::form::Item;
+use sheet::form::Line;
+use sheet::form::Sort;
+use sheet::form::Times;
+use sheet::form::Walk;
+ghost use Prim.Native.Nat.{_-_};
+ghost use Rattle.sheet.specs.Reach.{Reaches};
+ghost use Rattle.sheet.specs.Table.{ownRange};
+ghost use Rattle.sheet.specs.Form.{itemForm, pairForm, listForm, fieldForm, fieldsForm, bodyForm, nodeForm, lineForm, linesForm, sheetForm};
+ghost use Rattle.sheet.specs.Parts.{fieldsFrom};
+
+// The place that a walk ends at, or 0.
+fn ends(w: Walk) -> usize
+    ensures { λ r. ⌜ Reaches r w ⌝ }
+{
+    match w {
+        Walk::Behind(p) => p,
+        Walk::Stops(_) => 0,
+    }
+}
+
+// INPUT's source: the keyboard, the keyboard and a prompt, or a file.
+fn source_ends(sheet: &[u32], text: &[u16], line: Line, left: usize, at: usize) -> usize
+    ensures { λ r. ⌜ Reaches r (itemForm (now (sheet .entry)) (now (text .entry)) line (nodeForm (now (sheet .entry)) (now (text .entry)) line left) Item.Source at) ⌝ }
+{
+    let p = ends(take_word(sheet, 7, 3, at));
+    if p == 0 {
+        return 0;
+    }
+    let n = recorder::word::payload_at(sheet, at);
+    if n == 0 {
+        return p;
+    }
+    if n == 1 {
+        return ends(sheet::expr::text_form(sheet, line, p));
+    }
+    node_ends(sheet, text, line, left, Sort::Expr, p)
+}
+
+// PRINT's element: an expression, or the range of a comma or a semicolon.
+fn element_ends(sheet: &[u32], text: &[u16], line: Line, left: usize, at: usize) -> usize
+    ensures { λ r. ⌜ Reaches r (itemForm (now (sheet .entry)) (now (text .entry)) line (nodeForm (now (sheet .entry)) (now (text .entry)) line left) Item.Element at) ⌝ }
+{
+    let p = ends(take_word(sheet, 8, 3, at));
+    if p == 0 {
+        return 0;
+    }
+    if recorder::word::payload_at(sheet, at) == 0 {
+        return node_ends(sheet, text, line, left, Sort::Expr, p);
+    }
+    ends(sheet::expr::range_form(sheet, line, p))
+}
+
+fn item_ends(sheet: &[u32], text: &[u16], line: Line, left: usize, item: Item, at: usize) -> usize
+    ensures { λ r. ⌜ Reaches r (itemForm (now (sheet .entry)) (now (text .entry)) line (nodeForm (now (sheet .entry)) (now (text .entry)) line left) item at) ⌝ }
+{
+    match item {
+        Item::Nothing => at,
+        Item::Word(k, n) => ends(take_word(sheet, k, n, at)),
+        Item::Range => ends(sheet::expr::range_form(sheet, line, at)),
+        Item::Name => ends(sheet::expr::name_form(sheet, text, line, at)),
+        Item::OptionalName => ends(sheet::expr::optional_name_form(sheet, text, line, at)),
+        Item::Text => ends(sheet::expr::text_form(sheet, line, at)),
+        Item::Node(c) => node_ends(sheet, text, line, left, c, at),
+        Item::Number => ends(sheet::expr::number_form(sheet, at)),
+        Item::OptionalLabel => ends(sheet::expr::optional_label_form(sheet, at)),
+        Item::Source => source_ends(sheet, text, line, left, at),
+        Item::Element => element_ends(sheet, text, line, left, at),
+        Item::Datum => ends(sheet::expr::datum_form(sheet, line, at)),
+    }
+}
+
+// One item, then another; most have none behind the first.
+fn pair_ends(
+    sheet: &[u32],
+    text: &[u16],
+    line: Line,
+    left: usize,
+    a: Item,
+    b: Item,
+    at: usize,
+) -> usize
+    ensures { λ r. ⌜ Reaches r (pairForm (now (sheet .entry)) (now (text .entry)) line (nodeForm (now (sheet .entry)) (now (text .entry)) line left) a b at) ⌝ }
+{
+    let p = item_ends(sheet, text, line, left, a, at);
+    if p == 0 {
+        return 0;
+    }
+    match b {
+        Item::Nothing => p,
+        _ => item_ends(sheet, text, line, left, b, p),
+    }
+}
+
+// A count, and so many pairs.
+fn list_ends(
+    sheet: &[u32],
+    text: &[u16],
+    line: Line,
+    left: usize,
+    a: Item,
+    b: Item,
+    at: usize,
+) -> usize
+    ensures { λ r. ⌜ Reaches r (listForm (now (sheet .entry)) (now (text .entry)) line (pairForm (now (sheet .entry)) (now (text .entry)) line (nodeForm (now (sheet .entry)) (now (text .entry)) line left) a b) at) ⌝ }
+{
+    let q = ends(take_word(sheet, 4, 16777216, at));
+    if q == 0 {
+        return 0;
+    }
+    let mut p = q;
+    let mut n = recorder::word::payload_at(sheet, at);
+    while 0 < n {
+        let e = pair_ends(sheet, text, line, left, a, b, p);
+        if e == 0 {
+            return 0;
+        }
+        p = e;
+        n -= 1;
+    }
+    p
+}
+
+// A field: its pair, so many times.
+fn field_ends(sheet: &[u32], text: &[u16], line: Line, left: usize, f: Field, at: usize) -> usize
+    ensures { λ r. ⌜ Reaches r (fieldForm (now (sheet .entry)) (now (text .entry)) line (nodeForm (now (sheet .entry)) (now (text .entry)) line left) f at) ⌝ }
+{
+    let a = f.first;
+    let b = f.second;
+    let times = f.times;
+    match times {
+        Times::Once => pair_ends(sheet, text, line, left, a, b, at),
+        Times::Optional => {
+            if sheet::expr::is_absent(sheet, at) {
+                ends(take_word(sheet, 2, 1, at))
+            } else {
+                pair_ends(sheet, text, line, left, a, b, at)
+            }
+        }
+        Times::List => list_ends(sheet, text, line, left, a, b, at),
+        Times::NonEmpty => {
+            let p = ends(sheet::expr::non_empty_form(sheet, at));
+            if p == 0 {
+                return 0;
+            }
+            list_ends(sheet, text, line, left, a, b, at)
+        }
+        Times::OptionalList => {
+            if sheet::expr::is_absent(sheet, at) {
+                ends(take_word(sheet, 2, 1, at))
+            } else {
+                list_ends(sheet, text, line, left, a, b, at)
+            }
+        }
+    }
+}
+
+// The fields of the table from i to e.
+fn fields_ends(
+    sheet: &[u32],
+    text: &[u16],
+    line: Line,
+    left: usize,
+    i: usize,
+    e: usize,
+    at: usize,
+) -> usize
+    ensures { λ r. ⌜ Reaches r (fieldsForm (now (sheet .entry)) (now (text .entry)) line (nodeForm (now (sheet .entry)) (now (text .entry)) line left) (fieldsFrom i (e - i)) at) ⌝ }
+{
+    let mut p = at;
+    let mut j = i;
+    while j < e {
+        let f = sheet::form::field_at(j);
+        let q = field_ends(sheet, text, line, left, f, p);
+        if q == 0 {
+            return 0;
+        }
+        p = q;
+        j += 1;
+    }
+    p
+}
+
+// A node's own range. It holds no node, so it is read with no depth left, and not through item_ends.
+fn own_ends(sheet: &[u32], text: &[u16], line: Line, c: Sort, k: u32, at: usize) -> usize
+    ensures { λ r. ⌜ Reaches r (itemForm (now (sheet .entry)) (now (text .entry)) line (nodeForm (now (sheet .entry)) (now (text .entry)) line 0) (ownRange c k) at) ⌝ }
+{
+    match c {
+        Sort::Expr => expr_own_ends(sheet, text, line, k, at),
+        Sort::Place => expr_own_ends(sheet, text, line, k, at),
+        Sort::InputPlace => expr_own_ends(sheet, text, line, k, at),
+        Sort::Stmt => ends(sheet::expr::range_form(sheet, line, at)),
+    }
+}
+
+fn expr_own_ends(sheet: &[u32], text: &[u16], line: Line, k: u32, at: usize) -> usize
+    ensures { λ r. ⌜ Reaches r (itemForm (now (sheet .entry)) (now (text .entry)) line (nodeForm (now (sheet .entry)) (now (text .entry)) line 0) (ownRange Sort.Expr k) at) ⌝ }
+{
+    if k == 0 {
+        return ends(sheet::expr::name_form(sheet, text, line, at));
+    }
+    if k == 1 {
+        return ends(sheet::expr::text_form(sheet, line, at));
+    }
+    ends(sheet::expr::range_form(sheet, line, at))
+}
+
+// What stands behind a node's head: its own range and its fields.
+fn body_ends(
+    sheet: &[u32],
+    text: &[u16],
+    line: Line,
+    left: usize,
+    c: Sort,
+    k: u32,
+    at: usize,
+) -> usize
+    ensures { λ r. ⌜ Reaches r (bodyForm (now (sheet .entry)) (now (text .entry)) line (nodeForm (now (sheet .entry)) (now (text .entry)) line left) c k at) ⌝ }
+{
+    let p = own_ends(sheet, text, line, c, k, at);
+    if p == 0 {
+        return 0;
+    }
+    let m = sheet::form::case_of(c, k);
+    let i = sheet::form::start_at(m);
+    let e = sheet::form::start_after(m);
+    fields_ends(sheet, text, line, left, i, e, p)
+}
+
+// A statement or an expression, with so many depths left, its own among them.
+fn node_ends(sheet: &[u32], text: &[u16], line: Line, left: usize, c: Sort, at: usize) -> usize
+    ensures { λ r. ⌜ Reaches r (nodeForm (now (sheet .entry)) (now (text .entry)) line left c at) ⌝ }
+{
+    let p = ends(sheet::expr::head_form(sheet, c, at));
+    if p == 0 {
+        return 0;
+    }
+    let k = recorder::word::payload_at(sheet, at);
+    if sheet::form::is_fseek(c, k) {
+        return 0;
+    }
+    if left == 0 {
+        0
+    } else {
+        body_ends(sheet, text, line, left - 1, c, k, p)
+    }
+}
+
+// A line's statements: a count, and so many, with 64 depths.
+fn stmts_ends(sheet: &[u32], text: &[u16], line: Line, at: usize) -> usize
+    ensures { λ r. ⌜ Reaches r (listForm (now (sheet .entry)) (now (text .entry)) line (nodeForm (now (sheet .entry)) (now (text .entry)) line 64 Sort.Stmt) at) ⌝ }
+{
+    list_ends(
+        sheet,
+        text,
+        line,
+        64,
+        Item::Node(Sort::Stmt),
+        Item::Nothing,
+        at,
+    )
+}
+
+fn line_ends(sheet: &[u32], text: &[u16], base: usize, at: usize) -> usize
+    ensures { λ r. ⌜ Reaches r (lineForm (now (sheet .entry)) (now (text .entry)) base at) ⌝ }
+{
+    let p = ends(crate::stmt::line_head(sheet, text, base, at));
+    if p == 0 {
+        return 0;
+    }
+    let len = recorder::word::payload_at(sheet, at) as usize;
+    let line = Line { base, len };
+    let q = ends(sheet::expr::label_form(sheet, line, p));
+    if q == 0 {
+        return 0;
+    }
+    stmts_ends(sheet, text, line, q)
+}
+
+fn lines_ends(sheet: &[u32], text: &[u16], n: u32, at: usize) -> usize
+    ensures { λ r. ⌜ Reaches r (linesForm (now (sheet .entry)) (now (text .entry)) n 0 at) ⌝ }
+{
+    let mut base: usize = 0;
+    let mut p = at;
+    let mut left = n;
+    while 0 < left {
+        let q = line_ends(sheet, text, base, p);
+        if q == 0 {
+            return 0;
+        }
+        let len = recorder::word::payload_at(sheet, p) as usize;
+        base += len;
+        p = q;
+        left -= 1;
+    }
+    ends(crate::stmt::end_form(sheet, text, base, p))
+}
+
+// A whole sheet.
+pub fn sheet_ends(sheet: &[u32], text: &[u16]) -> usize
+    ensures { λ r. ⌜ Reaches r (sheetForm (now (sheet .entry)) (now (text .entry))) ⌝ }
+{
+    let p = ends(take_word(sheet, 15, 16777216, 0));
+    if p == 0 {
+        return 0;
+    }
+    lines_ends(sheet, text, recorder::word::payload_at(sheet, 0), p)
+}
