@@ -21,6 +21,7 @@ mod bench;
 mod cases;
 mod check;
 mod compare;
+mod crowded;
 mod damage;
 mod form;
 mod generate;
@@ -83,6 +84,7 @@ use std::process::ExitCode;
 const USAGE: &str = "\
 oracle listing < INPUT           document 01's listing of one program input
 oracle generate --seed S --count N [--valid|--damaged|--mixed] [--small]
+oracle crowded --seed S          two sheets with more names than a tree holds
 oracle pairs                     document 01's 'Pairs to run'
 oracle replay-list               the fixed list of inputs
 oracle answers < FILE            each answer whole
@@ -96,8 +98,8 @@ oracle lengths, as compare       the same at every length of each buffer
 oracle recheck < FILE            the same on given inputs
 oracle bench                     times of the Rust and of the library
 oracle selftest                  the tests
-generate, pairs and replay-list write the replay format, which answers, form,
-text, check and recheck read.";
+generate, crowded, pairs and replay-list write the replay format, which
+answers, form, text, check and recheck read.";
 
 fn main() -> ExitCode {
   let args: Vec<String> = std::env::args().skip(1).collect();
@@ -133,6 +135,11 @@ fn command_line(command: &str, options: &[&str]) -> io::Result<bool> {
         let input = generate::generate(seed, index, sort, small);
         replay::write_input(&mut out, &input)?;
         progress.step();
+      }
+    }
+    "crowded" => {
+      for input in crowded::crowded(parse(options)?.seed) {
+        replay::write_input(&mut out, &input)?;
       }
     }
     "pairs" => {

@@ -10,11 +10,11 @@ use native.Mathlib.Decide.{decLt}
 use native.Mathlib.Numerals.{add-one, add-two}
 use native.Mathlib.Omega.{arith}
 use Rattle.recorder.proofs.Words.{sets-fill}
-use Rattle.recorder.specs.Word.{pick, both}
+use Rattle.recorder.specs.Word.{pick}
 use Rattle.recorder.specs.Ideal.{Search, missing, found}
 use Rattle.recorder.specs.Layout.{wordsOf, fill}
 use Rattle.recorder.specs.Marks.{Mark, mark, orElse, addrOf, datumOf, dataOf}
-use Rattle.recorder.proofs.Bools.{never, both-parts}
+use Rattle.recorder.proofs.Bools.{both-parts}
 use Rattle.closing.specs.MarkWords.{markWords, markList, markCount, marked, labelOf, middle, seek, datumAt, lastOf, firstDatumOf, sortedTarget, sortedStart, findLabel, findDatum, below, rise}
 
 noMark : Mark

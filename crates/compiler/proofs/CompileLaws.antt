@@ -2,27 +2,24 @@
 use mathlib.Core.Path.{_≡_, refl, sym, ap, _∙_}
 use mathlib.Core.Bool.{Bool, true, false}
 use mathlib.Core.List.{List}
-use Prim.Native.Nat.{ℕ, zero, suc, _*_, _≤_, _<_}
+use Prim.Native.Nat.{ℕ, _*_, _≤_, _<_}
 use native.Mathlib.Omega.{arith}
 use borrow.Author.Tests.{le-leb, lt-leb}
-use lib.Dec.{ltb, leb}
 use lib.ListN.{length, replicate}
 use Rattle.recorder.specs.declared.codegen.St.{St}
-use Rattle.recorder.specs.Word.{pick, either, payloadAt}
+use Rattle.recorder.specs.Word.{payloadAt}
 use Rattle.recorder.specs.Mem.{Mem, mem, memR, nothing}
 use Rattle.sheet.specs.declared.form.Checked.{Checked}
 use Rattle.sheet.specs.declared.form.Checked.the-variants.{Accepted, TooLong, Surrogate, WorkTooShort, Offends}
 use Rattle.sheet.specs.declared.form.Offence.the-variants.{BadWord, TooDeep, BadLength, BadRange, Fseek}
 use Rattle.sheet.specs.Check.{checked, refusalNumber, refusalPlace}
-use Rattle.sheet.specs.Tree.{programAt}
 use Rattle.walk.proofs.LinesFit.{lines-fit}
 use Rattle.closing.specs.Marked.{MarksIn}
 use Rattle.program.specs.Line.{Programmed}
-use Rattle.rules.specs.Program.{Lines, firstLine, compileLines, closeUp}
+use Rattle.rules.specs.Program.{Lines, closeUp}
 use Rattle.rules.specs.Outcome.{Outcome, Lengths, lengths, refused, mostRecords, finished, sized, outcomeBy, outcome}
-use Rattle.rules.specs.Held.{heldLines, heldAccepted, heldOutcome}
+use Rattle.rules.specs.Held.{heldLines, heldOutcome}
 use Rattle.rules.proofs.SimOutcome.{held-outcome}
-use Rattle.compiler.specs.declared.Answer.{Answer}
 use Rattle.compiler.specs.Answered.{outcomeOf, sizedHeld}
 
 -- refusals 1 to 8

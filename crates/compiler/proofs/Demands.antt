@@ -11,7 +11,7 @@ use Rattle.recorder.specs.Layout.{wordsOf, recWords, fill, noteSize, entrySize}
 use Rattle.sheet.specs.declared.form.Checked.{Checked}
 use Rattle.sheet.specs.declared.form.Checked.the-variants.{Accepted, TooLong, Surrogate, WorkTooShort, Offends}
 use Rattle.sheet.specs.declared.form.Offence.the-variants.{BadWord, TooDeep, BadLength, BadRange, Fseek}
-use Rattle.sheet.specs.Check.{checked, refusalNumber, refusalPlace}
+use Rattle.sheet.specs.Check.{checked, refusalPlace}
 use Rattle.sheet.specs.Tree.{programAt}
 use Rattle.walk.proofs.Within.{place-within}
 use Rattle.rules.specs.Outcome.{Outcome, Lengths, refused, accepted, mostRecords, finished, sized, outcomeBy, outcome}

@@ -4,7 +4,6 @@ use nodes::node::OptRange;
 use recorder::codegen::St;
 use recorder::word::Range;
 use rules::types::Type;
-ghost use mathlib.Core.Path.{_≡_};
 ghost use Prim.Native.Nat.{ℕ};
 ghost use Rattle.recorder.specs.Mem.{mem};
 ghost use Rattle.sheet.specs.declared.form.Shape.the-variants.{Def};

@@ -1,27 +1,23 @@
 -- compile_expr and compile_args: one law for each way out.
-use mathlib.Core.Path.{_≡_, refl, sym as inv, ap, _∙_}
-use mathlib.Core.List.{List, []}
+use mathlib.Core.Path.{_≡_, refl, ap}
+use mathlib.Core.List.{List}
 use Prim.Native.Nat.{ℕ, zero, suc, _+_, _-_, _≤_, _<_}
-use lib.ListN.{getD}
-use borrow.Author.Tests.{ne-eqb}
 use native.Mathlib.Numerals.{sub-one, add-one}
 use native.Mathlib.Omega.{arith}
 use Rattle.recorder.specs.declared.word.Range.{Range}
 use Rattle.recorder.specs.Word.{payloadAt, rangeAt, next}
-use Rattle.recorder.specs.Recorder.{Recorder, Named}
-use Rattle.recorder.specs.Mem.{Mem, mem, memR}
+use Rattle.recorder.specs.Mem.{Mem, memR}
 use Rattle.sheet.specs.declared.form.Sort.{Sort}
 use Rattle.sheet.specs.declared.form.Sort.the-variants.{Expr as exprSort}
 use Rattle.sheet.specs.Table.{exprFields}
 use Rattle.sheet.specs.Skip.{skipNode, skipRepeat, skipList, skipFields, skipField, skipTimes, skipPair, skipItem}
-use Rattle.sheet.specs.Tree.{Opt, absent, given, Expr, Exprs, none, more, error, exprRange, count, exprAt, exprNode, exprsAt, optAt, mantissaAt}
+use Rattle.sheet.specs.Tree.{Expr, Exprs, more, error, exprRange, count, exprAt, exprNode, exprsAt, optAt, mantissaAt}
 use Rattle.rules.specs.declared.types.«Type».{«Type» as Ty}
-use Rattle.rules.specs.declared.types.«Type».the-variants.{Integer, Real, String, Error}
+use Rattle.rules.specs.declared.types.«Type».the-variants.{Real, String, Error}
 use Rattle.rules.specs.declared.tables.Wants.{Wants}
-use Rattle.rules.specs.declared.tables.Wants.the-variants.{Func, Every, Draw}
+use Rattle.rules.specs.declared.tables.Wants.the-variants.{Func, Every}
 use Rattle.rules.specs.Tables.{wantedBy}
-use Rattle.rules.specs.Expr.{Out, out, compileExpr, compileArgs, checkType, varNode, textNode, numberNode, funcNotes, funcNode, funcName, userCall, binaryNode, unaryNode, indexNode, indexPlace, varPlace, compileLvalue, compileTyped}
-use Rattle.rules.specs.Stmt.{placeTyped}
+use Rattle.rules.specs.Expr.{out, compileExpr, compileArgs, checkType, varNode, textNode, numberNode, funcNotes, funcNode, funcName, userCall, binaryNode, unaryNode, indexNode, indexPlace, varPlace, compileLvalue}
 use Rattle.nodes.specs.declared.node.OptRange.{OptRange}
 use Rattle.nodes.specs.Done.{named, optOf, Compiled, CompiledArgs, CompiledTyped, CompiledPlace, PlaceTyped, OpAt, CountAt}
 use Rattle.expressions.proofs.Lists.{exprs-step, repeat-step}

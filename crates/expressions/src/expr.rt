@@ -4,8 +4,8 @@ use recorder::word::Range;
 use rules::tables::Wants;
 use rules::types::Type;
 ghost use mathlib.Core.Path.{_≡_};
-ghost use Rattle.recorder.specs.Mem.{mem, memR};
-ghost use Rattle.recorder.specs.Word.{payloadAt, rangeAt, next};
+ghost use Rattle.recorder.specs.Mem.{mem};
+ghost use Rattle.recorder.specs.Word.{rangeAt, next};
 ghost use Rattle.sheet.specs.Tree.{mantissaAt};
 ghost use Rattle.nodes.specs.Done.{Compiled, CompiledArgs, CompiledTyped, CompiledPlace, PlaceTyped, OpAt, CountAt};
 

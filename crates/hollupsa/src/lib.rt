@@ -1,5 +1,4 @@
 // The library's edge: `compile` for programs in C or Rust. include/hollupsa.h declares it and says its contract in words.
-ghost use mathlib.Core.Path.{_≡_};
 ghost use lib.ListN.{length};
 ghost use Rattle.rules.specs.Outcome.{lengths, outcome};
 ghost use Rattle.hollupsa.specs.Edge.{Leaves};

@@ -1,17 +1,17 @@
 -- One law for each way out of a function: its premises are what the calls on that way ensure, its conclusion is the contract.
-use mathlib.Core.Path.{_≡_, refl, sym as inv, ap, _∙_}
+use mathlib.Core.Path.{_≡_, sym as inv, _∙_}
 use mathlib.Core.List.{List}
 use mathlib.Core.Bool.{Bool, true, false}
-use Prim.Native.Nat.{ℕ, zero, suc, _+_, _-_, _≤_, _<_}
+use Prim.Native.Nat.{ℕ, _+_, _-_, _≤_, _<_}
 use lib.ListN.{getD, length}
-use lib.Dec.{ltb, eqb}
+use lib.Dec.{eqb}
 use borrow.Author.Tests.{lt-ltb, le-ltb, eq-eqb, ne-eqb}
 use native.Mathlib.Omega.{arith}
 use Rattle.recorder.specs.declared.word.Range.{Range}
 use Rattle.recorder.specs.declared.codegen.St.{St}
-use Rattle.recorder.specs.Word.{pick, kindAt, wordOf, rangeWord, rangeAt}
+use Rattle.recorder.specs.Word.{kindAt, wordOf, rangeWord, rangeAt}
 use Rattle.recorder.specs.Mem.{Mem, mem, memR, putRec, putList, putSt, noteList, noteSt, symbolList, symbolSt, symbolNumber}
-use Rattle.sheet.specs.Tree.{Opt, absent, given, optAt}
+use Rattle.sheet.specs.Tree.{optAt}
 use Rattle.rules.specs.declared.types.«Type».{«Type» as Ty}
 use Rattle.rules.specs.declared.types.«Type».the-variants.{Integer, Real, String, Error}
 use Rattle.rules.specs.declared.name.Name.{Name}
@@ -20,7 +20,7 @@ use Rattle.rules.specs.Name.{readName}
 use Rattle.rules.specs.declared.tables.Sig.{Sig}
 use Rattle.rules.specs.Tables.{signatureOf, signatureFor}
 use Rattle.rules.specs.Name.{textPlace}
-use Rattle.rules.specs.Expr.{out, Out, Sym, compileSym, checkType, checkReal, realSym, funcName, varNode, varPlace, endsInQuote, quotedLength, quotedStart, textNode, numberNode, tabNote, arityNotes, funcNotes, funcNode, userCall, likeCall, likeType, unlikeType, likeNode, arithNode, binaryNode, unaryNode, indexNode, indexPlace}
+use Rattle.rules.specs.Expr.{out, compileSym, checkType, checkReal, realSym, funcName, varNode, varPlace, endsInQuote, quotedLength, quotedStart, textNode, numberNode, tabNote, arityNotes, funcNotes, funcNode, userCall, likeCall, likeType, unlikeType, likeNode, arithNode, binaryNode, unaryNode, indexNode, indexPlace}
 use Rattle.nodes.specs.declared.node.OptRange.{OptRange}
 use Rattle.nodes.specs.declared.node.OptRange.the-variants.{Given, Absent}
 use Rattle.nodes.specs.Done.{sym, named, optOf}

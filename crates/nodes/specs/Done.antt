@@ -12,7 +12,7 @@ use Rattle.sheet.specs.Tree.{Opt, absent, given, exprAt, exprsAt}
 use Rattle.rules.specs.declared.types.«Type».{«Type» as Ty}
 use Rattle.rules.specs.declared.tables.Wants.{Wants}
 use Rattle.rules.specs.Tables.{wantedBy}
-use Rattle.rules.specs.Expr.{Out, out, Sym, compileExpr, compileArgs, compileTyped, compileLvalue}
+use Rattle.rules.specs.Expr.{out, Sym, compileExpr, compileArgs, compileTyped, compileLvalue}
 use Rattle.rules.specs.Stmt.{placeTyped}
 use Rattle.nodes.specs.declared.node.OptRange.{OptRange}
 use Rattle.nodes.specs.declared.node.OptRange.the-variants.{Given, Absent}

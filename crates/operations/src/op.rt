@@ -4,7 +4,6 @@ use recorder::codegen::St;
 use recorder::word::Range;
 use rules::types::Type;
 use sheet::form::Shape;
-ghost use mathlib.Core.Path.{_≡_};
 ghost use mathlib.Core.List.{List};
 ghost use Prim.Native.Nat.{ℕ};
 ghost use Rattle.recorder.specs.Mem.{mem};

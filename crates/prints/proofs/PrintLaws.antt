@@ -20,7 +20,6 @@ use Rattle.rules.specs.declared.types.«Type».{«Type» as Ty}
 use Rattle.rules.specs.declared.types.«Type».the-variants.{Real}
 use Rattle.rules.specs.declared.tables.Wants.the-variants.{Func}
 use Rattle.rules.specs.Types.{matchesType}
-use Rattle.rules.specs.Expr.{out}
 use Rattle.rules.specs.Stmt.{compileStmt, isTabSpc, isValue, surplusNotes, tabCall, printValue, blankBetween, behindValue, printOne, printEach, emptyLine, compilePrint}
 use Rattle.nodes.specs.Done.{Compiled, CompiledArgs, CountAt}
 use Rattle.expressions.specs.Body.{Body}

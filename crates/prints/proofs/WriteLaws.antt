@@ -16,7 +16,7 @@ use Rattle.sheet.specs.Tree.{Expr, WriteElement, exprRange, exprAt, itemsAt, st
 use Rattle.rules.specs.declared.types.«Type».{«Type» as Ty}
 use Rattle.rules.specs.declared.types.«Type».the-variants.{Real}
 use Rattle.rules.specs.Types.{matchesType}
-use Rattle.rules.specs.Expr.{out, compileExpr}
+use Rattle.rules.specs.Expr.{compileExpr}
 use Rattle.rules.specs.Stmt.{compileStmt, flagOf, isLast, writeValue, writeEach}
 use Rattle.nodes.specs.Done.{Compiled, CompiledTyped, CountAt}
 use Rattle.expressions.specs.Body.{Body}

@@ -1,9 +1,9 @@
 -- Closing up what is the recorder's: WHILEs, delays, End (clean_up of codegen.rs), by document 01's sentences.
 use mathlib.Core.List.{List, [], _∷_, _++_}
-use mathlib.Core.Bool.{Bool, true, false}
+use mathlib.Core.Bool.{Bool}
 use Prim.Native.Nat.{ℕ, zero, suc, _+_, _*_, _-_, _/_, _^_}
-use lib.Dec.{ltb, leb, eqb}
-use lib.ListN.{length, getD, drop}
+use lib.Dec.{ltb, eqb}
+use lib.ListN.{length, getD}
 use Rattle.recorder.specs.Word.{pick, choose, both, either}
 use Rattle.recorder.specs.Recorder.{Recorder}
 use Rattle.recorder.specs.Ideal.{Rec, rec, Note, noteOf, Ideal, ideal, idealR, change, withB, noRec, noRange, Search, missing, found}

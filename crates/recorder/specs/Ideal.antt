@@ -1,6 +1,6 @@
 -- The rules' recorder: records, notes and book entries in lists that grow.
 use mathlib.Core.List.{List, [], _∷_, _++_}
-use mathlib.Core.Bool.{Bool, true, false}
+use mathlib.Core.Bool.{Bool, false}
 use Prim.Native.Nat.{ℕ, zero, suc, _+_, _%_}
 use lib.Dec.{eqb}
 use lib.ListN.{length, getD}

@@ -1,6 +1,5 @@
 -- The labelled lines, in order: what resolution looks labels up in.
 use mathlib.Core.List.{List, [], _∷_}
-use mathlib.Core.Bool.{Bool, true, false}
 use Prim.Native.Nat.{ℕ, zero, suc}
 use lib.Dec.{eqb}
 use Rattle.recorder.specs.Word.{pick}

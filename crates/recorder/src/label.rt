@@ -1,6 +1,5 @@
 // Labels, addresses and DATA indices are three number types, so that none is taken for another.
 ghost use mathlib.Core.Path.{_≡_};
-ghost use lib.ListN.{getD};
 ghost use Rattle.recorder.specs.Word.{labelAt};
 
 // A line's label.

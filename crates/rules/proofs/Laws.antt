@@ -1,12 +1,12 @@
 -- The reading of a name: one law for each way out of its loop.
-use mathlib.Core.Path.{_≡_, refl, sym, ap, _∙_}
+use mathlib.Core.Path.{_≡_}
 use mathlib.Core.List.{List}
 use mathlib.Core.Bool.{Bool, true, false}
 use Prim.Native.Nat.{ℕ, zero, suc, _+_, _-_, _≤_, _<_}
 use lib.ListN.{getD}
 use native.Mathlib.Numerals.{sub-one}
 use native.Mathlib.Omega.{arith}
-use Rattle.recorder.specs.Word.{pick, next}
+use Rattle.recorder.specs.Word.{next}
 use Rattle.rules.specs.Name.{endsName, nameLength}
 
 -- a unit that goes on, one that ends the name, and no unit left; k units were counted before

@@ -6,7 +6,7 @@ use Prim.Native.Nat.{ℕ, zero, suc, _+_, _-_}
 use lib.Dec.{ltb, eqb, eqb·suc-zero}
 use native.Mathlib.Omega.{arith}
 use borrow.Author.Tests.{eqb-true}
-use Rattle.recorder.specs.Word.{pick, both, either}
+use Rattle.recorder.specs.Word.{pick, either}
 use Rattle.recorder.specs.Recorder.{Recorder, Look}
 use Rattle.recorder.specs.Ideal.{Search, missing, found}
 use Rattle.recorder.specs.Marks.{Mark, orElse, addrOf, datumOf, dataOf}

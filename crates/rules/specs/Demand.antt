@@ -7,17 +7,16 @@ use Prim.Native.Nat.{ℕ, zero, suc, _+_, _-_, _<_}
 use lib.Dec.{ltb, leb, eqb}
 use lib.ListN.{length, getD}
 use Rattle.recorder.specs.Word.{pick, both, either}
-use Rattle.recorder.specs.declared.word.Range.{Range}
-use Rattle.recorder.specs.Ideal.{Rec, Note, Entry, Ideal, ideal, noRec}
+use Rattle.recorder.specs.Ideal.{Rec, Note, Entry, Ideal, ideal}
 use Rattle.recorder.specs.Closing.{isOp, isWend, isWhile, rulesR, recAt}
-use Rattle.sheet.specs.Tree.{Opt, absent, given, Expr, Stmt, rem, op₀, op₁, op₂, op₃, draw, set, dataList, def, dim, field, for, go, ifThen, ifElse, input, assign, load, locate, next-of, on, open-file, print, read, restore, swap, system, while, write, Stmts, end, then, ProgramLine, programAt}
+use Rattle.sheet.specs.Tree.{given, Stmt, rem, op₀, op₁, op₂, op₃, draw, set, dataList, def, dim, field, for, go, ifThen, ifElse, input, assign, load, locate, next-of, on, open-file, print, read, restore, swap, system, while, write, Stmts, end, then, ProgramLine, programAt}
 use Rattle.rules.specs.declared.types.«Type».the-variants.{Real}
 use Rattle.rules.specs.Expr.{compileTyped}
 use Rattle.rules.specs.Stmt.{ifJump, elseJump, endHere, compileStmt, compileStmts}
 use Rattle.rules.specs.Program.{Lines, lineBegun, firstLine, compileLine}
 use Rattle.rules.specs.Outcome.{Lengths, outcome, finished}
 use Rattle.rules.specs.Missing.{All, Whole}
-use Rattle.rules.specs.Piles.{Kind, num, Pile, step}
+use Rattle.rules.specs.Piles.{num, Pile, step}
 
 -- "A target (19 to 21's, 25's two, 26's end)"
 abbrev pub targets : Rec → List ℕ

@@ -1,16 +1,16 @@
 -- Compiling expressions, over any recorder: compile_expr, compile_sys_func_call, compile_binary_expr, compile_lvalue and
 -- compile_sym of compiler.rs, in its order of calls and notes.
 use mathlib.Core.List.{List}
-use mathlib.Core.Bool.{Bool, true, false}
+use mathlib.Core.Bool.{Bool}
 use Prim.Native.Nat.{ℕ, zero, suc, _+_, _-_}
-use lib.Dec.{ltb, leb, eqb}
+use lib.Dec.{ltb, eqb}
 use lib.ListN.{length, getD}
 use Rattle.recorder.specs.Word.{pick, both, either}
 use Rattle.recorder.specs.declared.word.Range.{Range}
 use Rattle.recorder.specs.Recorder.{Recorder, Named}
 use Rattle.sheet.specs.Tree.{Opt, absent, given, Expr, ident, stringLit, numberLit, sysFuncCall, userFuncCall, binary, unary, index, inkey, error, Exprs, none, more, exprRange, count}
 use Rattle.rules.specs.declared.types.«Type».{«Type» as Ty}
-use Rattle.rules.specs.declared.types.«Type».the-variants.{Integer, Real, String, Error}
+use Rattle.rules.specs.declared.types.«Type».the-variants.{Real, String, Error}
 use Rattle.rules.specs.declared.name.Name.{Name}
 use Rattle.rules.specs.Types.{matchesType, exactMatches, rvalueType}
 use Rattle.rules.specs.Name.{textPlace, readName}

@@ -1,6 +1,6 @@
 -- Reading a name from its units: the first half of compile_sym of compiler.rs.
 use mathlib.Core.List.{List}
-use mathlib.Core.Bool.{Bool, true, false}
+use mathlib.Core.Bool.{Bool}
 use Prim.Native.Nat.{ℕ, zero, suc, _+_, _-_, _%_}
 use lib.Dec.{ltb, eqb}
 use lib.ListN.{getD}

@@ -1,7 +1,6 @@
 -- What a call answers and leaves in the lent memory, for every sheet, text and lengths: document 01's rules, whole.
 use mathlib.Core.List.{List, []}
-use mathlib.Core.Bool.{Bool, true, false}
-use Prim.Native.Nat.{ℕ, _+_, _/_, min}
+use Prim.Native.Nat.{ℕ, _/_, min}
 use lib.Dec.{ltb}
 use lib.ListN.{length, replicate}
 use Rattle.recorder.specs.Word.{pick}
@@ -10,7 +9,6 @@ use Rattle.recorder.specs.Closing.{rulesR}
 use Rattle.recorder.specs.Layout.{wordsOf, recWords, noteWords, entryWords, recSize, noteSize, entrySize, fill}
 use Rattle.sheet.specs.declared.form.Checked.{Checked}
 use Rattle.sheet.specs.declared.form.Checked.the-variants.{Accepted, TooLong, Surrogate, WorkTooShort, Offends}
-use Rattle.sheet.specs.declared.form.Offence.{Offence}
 use Rattle.sheet.specs.Check.{checked, refusalNumber, refusalPlace}
 use Rattle.sheet.specs.Tree.{programAt}
 use Rattle.rules.specs.Program.{Lines, firstLine, compileLines, closeUp}

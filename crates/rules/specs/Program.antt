@@ -1,8 +1,8 @@
 -- Compiling a program, over any recorder: compile_prog, resolve_labels and resolve_datum_indices of compiler.rs.
 use mathlib.Core.List.{List, [], _∷_, _++_}
-use mathlib.Core.Bool.{Bool, true, false}
+use mathlib.Core.Bool.{Bool}
 use Prim.Native.Nat.{ℕ, zero, suc, _+_, _-_}
-use lib.Dec.{ltb, leb, eqb}
+use lib.Dec.{ltb, eqb}
 use lib.ListN.{length}
 use Rattle.recorder.specs.Word.{pick, both, either}
 use Rattle.recorder.specs.Recorder.{Recorder, Look, unpack}

@@ -13,7 +13,7 @@ use Rattle.rules.specs.declared.types.«Type».the-variants.{Integer, Re
 use Rattle.rules.specs.Types.{matchesType, exactMatches}
 use Rattle.rules.specs.Name.{textPlace}
 use Rattle.rules.specs.Tables.{drawArity, drawn, operand, signatureOf, wanted, everyReal, tab, spc}
-use Rattle.rules.specs.Expr.{Out, out, Sym, after, withSym, quotedStart, quotedLength, textSize, addError, addWarning, compileSym, checkType, checkReal, realSym, noSym, funcName, textNode, elementBy, compileExpr, compileArgs, compileTyped, compileLvalue}
+use Rattle.rules.specs.Expr.{Sym, after, quotedStart, quotedLength, textSize, addError, addWarning, compileSym, checkType, realSym, noSym, funcName, textNode, elementBy, compileExpr, compileArgs, compileTyped, compileLvalue}
 
 -- a LOAD byte, read as str::parse::<u8> reads it, without blanks: one plus at most, then digits, up to 255.
 -- What was read so far: nothing, a plus, a number, or what is no byte.

@@ -1,12 +1,11 @@
 -- What the statements and functions want, as compile_stmt and compile_sys_func_call of compiler.rs say it.
 use mathlib.Core.List.{List, [], _∷_}
 use Prim.Native.Nat.{ℕ}
-use mathlib.Core.Bool.{Bool, true, false}
 use lib.Dec.{ltb, eqb}
-use lib.ListN.{length, getD}
+use lib.ListN.{getD}
 use Rattle.recorder.specs.Word.{pick, both}
 use Rattle.rules.specs.declared.types.«Type».{«Type» as Ty}
-use Rattle.rules.specs.declared.types.«Type».the-variants.{Integer, Real, String, Error}
+use Rattle.rules.specs.declared.types.«Type».the-variants.{Real, String, Error}
 use Rattle.rules.specs.declared.tables.Sig.{Sig}
 use Rattle.rules.specs.declared.tables.Sig.the-variants.{RealOfReal, RealOfText, TextOfReal, TextPart, Mid, Point}
 use Rattle.rules.specs.declared.tables.Wants.{Wants}

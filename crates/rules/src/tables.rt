@@ -2,7 +2,7 @@
 use crate::types::Type;
 ghost use mathlib.Core.Path.{_≡_};
 ghost use lib.ListN.{length};
-ghost use Rattle.rules.specs.Tables.{signatureFor, signatureOf, wanted, drawArity, drawn, operand, wantedBy, textThenReals, realsBelow};
+ghost use Rattle.rules.specs.Tables.{signatureFor, signatureOf, wanted, drawArity, operand, wantedBy, textThenReals, realsBelow};
 
 // The signatures that functions have.
 pub enum Sig {

@@ -1,9 +1,9 @@
 -- The tables of the code are the table of the form.
-use Prim.{Unit, tt}
+use Prim.{Unit}
 use mathlib.Core.Path.{_≡_, refl, sym, ap, _∙_}
 use mathlib.Core.Bool.{Bool, true, false}
-use mathlib.Core.List.{List, [], _∷_, _++_}
-use Prim.Native.Nat.{ℕ, zero, suc, _+_, _-_, _≤_, _<_}
+use mathlib.Core.List.{List, [], _∷_}
+use Prim.Native.Nat.{ℕ, zero, suc, _+_, _≤_, _<_}
 use native.Mathlib.Omega.{arith}
 use borrow.Author.Tests.{ltb-true, ltb-false}
 use lib.Dec.{ltb}
@@ -16,7 +16,7 @@ use Rattle.sheet.specs.declared.form.Field.{Field}
 use Rattle.sheet.specs.declared.form.Sort.{Sort}
 use Rattle.sheet.specs.declared.form.Sort.the-variants.{Expr, Place, InputPlace, Stmt}
 use Rattle.sheet.specs.Table.{exprTable, stmtTable, exprFields, stmtFields, exprRange, fieldsOf}
-use Rattle.sheet.specs.Parts.{fieldOf, itemOf, timesOf, fieldNumbers, fieldStarts, fieldsFrom, rowFields, caseOf}
+use Rattle.sheet.specs.Parts.{fieldOf, itemOf, timesOf, fieldStarts, fieldsFrom, rowFields, caseOf}
 
 pub field-same : (t t′ : Times) (a a′ b b′ : Item) → t ≡ t′ → a ≡ a′ → b ≡ b′
     → _≡_ {A = Field} (record { times = t; first = a; second = b }) (record { times = t′; first = a′; second = b′ })

@@ -1,11 +1,11 @@
 -- Laws of `then` and `pick`: what a function that returns early, or by a test, has computed.
 use mathlib.Core.Path.{_≡_, refl, sym, ap, _∙_}
 use mathlib.Core.Bool.{Bool, true, false}
-use mathlib.Core.List.{List, [], _∷_}
-use Prim.Native.Nat.{ℕ, zero, suc, _+_, _-_, _≤_, _<_}
+use mathlib.Core.List.{List}
+use Prim.Native.Nat.{ℕ, zero, suc, _-_, _≤_, _<_}
 use native.Mathlib.Omega.{arith}
-use borrow.Author.Tests.{lt-ltb, le-ltb, eq-eqb, ne-eqb, le-leb, lt-leb}
-use lib.Dec.{ltb, leb, eqb}
+use borrow.Author.Tests.{lt-ltb, le-ltb, eq-eqb, ne-eqb}
+use lib.Dec.{ltb, eqb}
 use lib.ListN.{length, getD, List·getD-eq-default}
 use Rattle.recorder.specs.Word.{pick, choose, both, either, next}
 use Rattle.sheet.specs.declared.form.Offence.{Offence}
@@ -15,7 +15,7 @@ use Rattle.recorder.specs.declared.word.Range.{Range}
 use Rattle.sheet.specs.declared.form.Marked.{Marked}
 use Rattle.sheet.specs.declared.form.Marked.the-variants.{Labelled, Absent}
 use Rattle.sheet.specs.Parts.{lacksUnit, markedAt}
-use Rattle.sheet.specs.Form.{then, isAbsent, between, isLetter, isAlnum, isSigil, nameTail, isName, highForm, lowForm}
+use Rattle.sheet.specs.Form.{then, isAbsent, isAlnum, isSigil, nameTail, isName, highForm, lowForm}
 
 -- a walk that offends ends what goes on behind it
 pub then-stop : (w x : Walk) (o : Offence) (f : ℕ → Walk) → w ≡ x → w ≡ Stops o → w ≡ then x f

@@ -7,7 +7,7 @@ use lib.ListN.{getD}
 use Rattle.recorder.specs.Word.{pick, both, either}
 use Rattle.recorder.specs.declared.word.Range.{Range}
 use Rattle.sheet.specs.declared.form.Item.{Item}
-use Rattle.sheet.specs.declared.form.Item.the-variants.{Nothing, Word, Range as range, Name as name, OptionalName as optionalName, Text as text, Node, Number as number, OptionalLabel as optionalLabel, Source as source, Element as element, Datum as datum}
+use Rattle.sheet.specs.declared.form.Item.the-variants.{Nothing, Range as range, Name as name, OptionalName as optionalName, Text as text, Number as number, OptionalLabel as optionalLabel, Source as source, Element as element, Datum as datum}
 use Rattle.sheet.specs.declared.form.Sort.{Sort}
 use Rattle.sheet.specs.declared.form.Sort.the-variants.{Expr, Place, InputPlace, Stmt}
 use Rattle.sheet.specs.declared.form.Times.{Times}

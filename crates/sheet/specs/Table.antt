@@ -1,6 +1,6 @@
 -- The form of the sheet: for each case of ExprKind and StmtKind its fields, in the declared order.
 use mathlib.Core.List.{List, [], _∷_}
-use mathlib.Core.Bool.{Bool, true, false}
+use mathlib.Core.Bool.{Bool, false}
 use Prim.Native.Nat.{ℕ, zero, suc}
 use lib.Dec.{ltb, eqb}
 use lib.ListN.{getD}
@@ -9,7 +9,6 @@ use Rattle.sheet.specs.declared.form.Item.{Item}
 use Rattle.sheet.specs.declared.form.Item.the-variants.{Nothing, Word, Range as range, Name as name, OptionalName as optionalName, Text as text, Node, Number as number, OptionalLabel as optionalLabel, Source as source, Element as element, Datum as datum}
 use Rattle.sheet.specs.declared.form.Sort.{Sort}
 use Rattle.sheet.specs.declared.form.Sort.the-variants.{Expr, Place, InputPlace, Stmt}
-use Rattle.sheet.specs.declared.form.Times.{Times}
 use Rattle.sheet.specs.declared.form.Times.the-variants.{Once, Optional, List as Listed, NonEmpty, OptionalList}
 use Rattle.sheet.specs.declared.form.Field.{Field}
 

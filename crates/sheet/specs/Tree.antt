@@ -1,12 +1,9 @@
 -- The tree that a sheet holds, and how it is read from there. Every reader is total: what the form refuses reads as something.
 use mathlib.Core.List.{List, [], _∷_}
-use mathlib.Core.Bool.{Bool, true, false}
 use Prim.Native.Nat.{ℕ, zero, suc, _+_, _*_, _%_}
-use lib.Dec.{eqb}
 use lib.ListN.{getD}
-use Rattle.recorder.specs.Word.{pick, choose, payloadAt, next, rangeAt, labelAt}
+use Rattle.recorder.specs.Word.{choose, payloadAt, next, rangeAt, labelAt}
 use Rattle.recorder.specs.declared.word.Range.{Range}
-use Rattle.sheet.specs.declared.form.Sort.{Sort}
 use Rattle.sheet.specs.declared.form.Sort.the-variants.{Expr as exprSort, Place as placeSort, InputPlace as inputSort, Stmt as stmtSort}
 use Rattle.sheet.specs.declared.form.Shape.{Shape}
 use Rattle.sheet.specs.declared.form.Shape.the-variants.{Rem, NoOp, Op0, Run, Op1, Op2, Op3, Draw, Set, Data, Def, Dim, Field, For, GoSub, GoTo, If, Input, Let, Load, Locate, Next, On, Open, Print, Read, Restore, Swap, System, While, Write}

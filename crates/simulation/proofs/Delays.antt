@@ -8,7 +8,7 @@ use lib.ListN.{length, getD, length-set, List·getD-eq-default}
 use borrow.Author.Tests.{eqb-true}
 use native.Mathlib.Decide.{decLt}
 use native.Mathlib.Omega.{arith}
-use Rattle.recorder.specs.Word.{pick, both, either, wordOf}
+use Rattle.recorder.specs.Word.{pick, both, either}
 use Rattle.recorder.specs.Ideal.{Rec, rec, noRec, change}
 use Rattle.recorder.specs.Layout.{recWords, wordsOf, fill}
 use Rattle.recorder.specs.Closing.{isStart, isEnd, isOne, isFor, isNextOf, recAt, isDelay, isSteppedDelay, roundUp, noOp, sleep, wholeEnd, delayed, steppedDelayed, delayFrom, delays}

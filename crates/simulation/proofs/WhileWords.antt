@@ -15,7 +15,7 @@ use Rattle.recorder.specs.Layout.{recWords, noteWords, wordsOf}
 use Rattle.recorder.specs.Closing.{isWhile, isWend}
 use Rattle.recorder.specs.Mem.{recOf, setB, atRec, linkAt, whileList, whileTop, whilesFrom, topFrom, Passed, openStep, openFrom, withNotes, noteList}
 use Rattle.recorder.proofs.Words.{head-again, change-length, squash, raw-at}
-use Rattle.recorder.proofs.Bools.{never, both-parts, both-false}
+use Rattle.recorder.proofs.Bools.{both-parts, both-false}
 use Rattle.simulation.proofs.Change.{change-front, change-comm, change-twice, change-none, at-change, at-other}
 use Rattle.simulation.proofs.Hide.{freshRec, allFresh}
 use Rattle.simulation.proofs.Sim.{Exact, exact-put, note-form}

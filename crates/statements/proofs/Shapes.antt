@@ -2,9 +2,9 @@
 use mathlib.Core.Path.{_≡_, sym}
 use Prim.Native.Nat.{ℕ, _<_}
 use native.Mathlib.Omega.{arith}
-use lib.ListN.{getD, List·getD-map, List·getD-eq-default}
+use lib.ListN.{List·getD-map, List·getD-eq-default}
 use Rattle.sheet.specs.declared.form.Shape.the-variants.{NoOp}
-use Rattle.sheet.specs.Table.{stmtTable, stmtFields}
+use Rattle.sheet.specs.Table.{stmtFields}
 use Rattle.sheet.specs.Tree.{shapeTable, shapeOf}
 use Rattle.sheet.proofs.Rows.{NoneBelow, none-below}
 use Rattle.expressions.specs.Body.{shapeFields}

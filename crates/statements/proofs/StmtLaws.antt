@@ -9,18 +9,14 @@ use native.Mathlib.Omega.{arith}
 use Rattle.recorder.specs.declared.word.Range.{Range}
 use Rattle.recorder.specs.declared.codegen.St.{St}
 use Rattle.recorder.specs.Word.{payloadAt, rangeAt, next, choose}
-use Rattle.recorder.specs.Recorder.{Recorder}
 use Rattle.recorder.specs.Mem.{Mem, mem, memR, onRec, setA}
 use Rattle.sheet.specs.declared.form.Sort.the-variants.{Expr as exprSort, Stmt as stmtSort}
-use Rattle.sheet.specs.declared.form.Shape.{Shape}
 use Rattle.sheet.specs.declared.form.Shape.the-variants.{If}
-use Rattle.sheet.specs.Table.{stmtFields}
 use Rattle.sheet.specs.Form.{isAbsent}
 use Rattle.sheet.specs.Skip.{skipNode, skipRepeat, skipList, skipFields, skipField, skipTimes, skipPair, skipItem}
-use Rattle.sheet.specs.Tree.{Stmt, Stmts, ifThen, ifElse, exprAt, stmtNode, stmtAt, stmtsAt, ifAt, shapeOf}
+use Rattle.sheet.specs.Tree.{stmtNode, stmtAt, stmtsAt, shapeOf}
 use Rattle.rules.specs.declared.types.«Type».the-variants.{Real}
-use Rattle.rules.specs.Expr.{compileTyped}
-use Rattle.rules.specs.Stmt.{compileStmt, compileStmts, ifJump, elseJump, endHere}
+use Rattle.rules.specs.Stmt.{compileStmt, compileStmts, elseJump, endHere}
 use Rattle.nodes.specs.Done.{CompiledTyped, CountAt}
 use Rattle.expressions.specs.Body.{Body, shapeFields}
 use Rattle.expressions.proofs.ExprLaws.{Head}

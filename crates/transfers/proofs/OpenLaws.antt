@@ -2,7 +2,7 @@
 use mathlib.Core.Path.{_≡_, sym as inv, _∙_}
 use mathlib.Core.List.{List}
 use mathlib.Core.Bool.{false}
-use Prim.Native.Nat.{ℕ, _-_, _≤_, _<_}
+use Prim.Native.Nat.{ℕ, _≤_, _<_}
 use lib.Dec.{eqb}
 use borrow.Author.Tests.{lt-ltb, le-ltb, eq-eqb, ne-eqb}
 use Rattle.recorder.specs.declared.word.Range.{Range}
@@ -12,7 +12,6 @@ use Rattle.sheet.specs.declared.form.Shape.the-variants.{Open}
 use Rattle.sheet.specs.Skip.{skipFields, skipField, skipTimes, skipPair, skipItem}
 use Rattle.sheet.specs.Tree.{stmtNode}
 use Rattle.rules.specs.declared.types.«Type».the-variants.{Real, String}
-use Rattle.rules.specs.Expr.{out}
 use Rattle.rules.specs.Stmt.{compileStmt, lenNotes, compileOpen}
 use Rattle.nodes.specs.Done.{CompiledTyped, CountAt}
 use Rattle.expressions.specs.Body.{Body}

@@ -1,7 +1,7 @@
 -- The contracts' shapes for the parts of OPEN and LOAD.
 use mathlib.Core.Path.{_≡_}
 use mathlib.Core.List.{List}
-use Prim.Native.Nat.{ℕ, _-_}
+use Prim.Native.Nat.{ℕ}
 use lib.Dec.{ltb, eqb}
 use Rattle.recorder.specs.declared.word.Range.{Range}
 use Rattle.recorder.specs.declared.codegen.St.{St}

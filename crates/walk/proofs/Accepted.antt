@@ -1,10 +1,10 @@
 -- The skip finds the place where the check of an accepted part ended.
-use mathlib.Core.Path.{_≡_, refl, sym, ap, _∙_}
+use mathlib.Core.Path.{_≡_, refl}
 use mathlib.Core.Bool.{Bool, true, false}
 use mathlib.Core.List.{List, [], _∷_}
-use Prim.Native.Nat.{ℕ, zero, suc, _+_, _-_, _≤_, _<_}
+use Prim.Native.Nat.{ℕ, zero, suc}
 use native.Mathlib.Omega.{arith}
-use lib.Dec.{ltb, leb, eqb}
+use lib.Dec.{ltb, eqb}
 use Rattle.recorder.specs.Word.{pick, choose, both, kindAt, payloadAt, next, rangeAt}
 use Rattle.sheet.specs.declared.form.Item.{Item}
 use Rattle.sheet.specs.declared.form.Item.the-variants.{Nothing, Word, Range as range, Name as name, OptionalName as optionalName, Text as text, Node, Number as number, OptionalLabel as optionalLabel, Source as source, Element as element, Datum as datum}
@@ -20,7 +20,7 @@ use Rattle.sheet.specs.declared.form.Walk.the-variants.{Behind, Stops}
 use Rattle.sheet.specs.declared.form.Line.{Line}
 use Rattle.sheet.specs.Table.{nodeKind, mayStand, exprRange, ownRange, fieldsOf, isFseek}
 use Rattle.sheet.specs.Parts.{highFits, lowFits, lacksUnit}
-use Rattle.sheet.specs.Form.{then, isAbsent, hasUnit, isNameRange, takeWord, absentForm, nonEmptyForm, highForm, lowForm, numberForm, headForm, fseekForm, inLine, rangeForm, textForm, datumForm, nameForm, sourceRest, elementRest, itemForm, pairForm, repeatForm, listForm, timesForm, fieldForm, fieldsForm, bodyForm, nodeForm}
+use Rattle.sheet.specs.Form.{then, isAbsent, hasUnit, isNameRange, takeWord, absentForm, nonEmptyForm, highForm, lowForm, numberForm, headForm, inLine, rangeForm, textForm, datumForm, nameForm, sourceRest, elementRest, itemForm, pairForm, repeatForm, listForm, timesForm, fieldForm, fieldsForm, bodyForm, nodeForm}
 use Rattle.sheet.specs.Skip.{skipSource, skipElement, skipItem, skipPair, skipRepeat, skipList, skipTimes, skipField, skipFields, skipNode}
 
 -- where the walk is accepted, it ends at x

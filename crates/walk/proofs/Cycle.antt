@@ -1,13 +1,13 @@
 -- One law for each way out of the functions that walk the sheet, and what makes the remaining words fall.
 use mathlib.Core.Path.{_≡_, refl, sym, ap, _∙_}
 use mathlib.Core.Bool.{Bool, true, false}
-use mathlib.Core.List.{List, [], _∷_}
-use Prim.Native.Nat.{ℕ, zero, suc, _+_, _-_, _*_, _/_, _≤_, _<_}
+use mathlib.Core.List.{List}
+use Prim.Native.Nat.{ℕ, zero, suc, _+_, _-_, _≤_, _<_}
 use native.Mathlib.Omega.{arith}
 use borrow.Author.Tests.{eqb-true, ltb-true, ltb-false, lt-ltb}
-use lib.Dec.{ltb, leb, eqb}
+use lib.Dec.{ltb, eqb}
 use lib.ListN.{length, getD, List·getD-eq-default}
-use Rattle.recorder.specs.Word.{pick, both, kindAt, payloadAt, next}
+use Rattle.recorder.specs.Word.{both, kindAt, payloadAt, next}
 use Rattle.recorder.proofs.Bools.{both-left}
 use Rattle.sheet.specs.declared.form.Item.{Item}
 use Rattle.sheet.specs.declared.form.Sort.{Sort}
@@ -20,10 +20,10 @@ use Rattle.sheet.specs.declared.form.Walk.the-variants.{Behind, Stops}
 use Rattle.sheet.specs.declared.form.Line.{Line}
 use Rattle.sheet.specs.Table.{nodeKind, mayStand, ownRange, fieldsOf, isFseek}
 use Rattle.sheet.specs.Parts.{fieldOf, fieldNumbers, fieldStarts, fieldsFrom, caseOf}
-use Rattle.sheet.specs.Form.{then, takeWord, headForm, textForm, rangeForm, sourceRest, elementRest, itemForm, repeatForm, fieldForm, fieldsForm, bodyForm, nodeForm}
-use Rattle.sheet.proofs.Walks.{then-stop, then-go, pick-yes, pick-no, pick-behind, told}
+use Rattle.sheet.specs.Form.{then, headForm, textForm, rangeForm, sourceRest, elementRest, itemForm, repeatForm, fieldForm, fieldsForm, bodyForm, nodeForm}
+use Rattle.sheet.proofs.Walks.{then-stop, then-go, pick-behind, told}
 use Rattle.sheet.proofs.Rows.{row-of}
-use Rattle.walk.proofs.Steps.{Ends, endOf}
+use Rattle.walk.proofs.Steps.{Ends}
 
 -- a walk that came to an end came further
 pub later : (s : List ℕ) (p q : ℕ) (w x : Walk) → Ends s p x → w ≡ x → w ≡ Behind q → p ≤ q

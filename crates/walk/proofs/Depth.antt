@@ -2,7 +2,6 @@
 use mathlib.Core.Path.{_≡_, refl}
 use mathlib.Core.List.{List, [], _∷_}
 use Prim.Native.Nat.{ℕ, zero, suc}
-use lib.ListN.{getD, length}
 use Rattle.recorder.specs.Word.{next}
 use Rattle.sheet.specs.declared.form.Offence.the-variants.{TooDeep}
 use Rattle.sheet.specs.declared.form.Walk.the-variants.{Behind, Stops}

@@ -5,23 +5,21 @@ use mathlib.Core.List.{List, [], _∷_}
 use Prim.Native.Nat.{ℕ, zero, suc, _+_, _-_, _≤_, _<_}
 use native.Mathlib.Omega.{arith}
 use native.Mathlib.Numerals.{add-one}
-use borrow.Author.Tests.{ltb-true, ltb-false, lt-ltb, le-ltb, leb-true, leb-false, le-leb, lt-leb}
-use lib.Dec.{ltb, leb, eqb}
+use borrow.Author.Tests.{lt-ltb, le-ltb, leb-true, leb-false, le-leb, lt-leb}
+use lib.Dec.{leb}
 use lib.ListN.{length, getD, drop}
-use lib.Seq.{drop-cons, drop-length}
-use Rattle.recorder.specs.Word.{pick, both, either, payloadAt}
-use Rattle.sheet.specs.declared.form.Item.{Item}
+use lib.Seq.{drop-cons}
+use Rattle.recorder.specs.Word.{payloadAt}
 use Rattle.sheet.specs.declared.form.Item.the-variants.{Nothing, Node}
 use Rattle.sheet.specs.declared.form.Sort.{Sort}
-use Rattle.sheet.specs.declared.form.Sort.the-variants.{Expr, Place, InputPlace, Stmt}
+use Rattle.sheet.specs.declared.form.Sort.the-variants.{Stmt}
 use Rattle.sheet.specs.declared.form.Offence.{Offence}
 use Rattle.sheet.specs.declared.form.Offence.the-variants.{BadWord, BadLength}
 use Rattle.sheet.specs.declared.form.Walk.{Walk}
 use Rattle.sheet.specs.declared.form.Walk.the-variants.{Behind, Stops}
 use Rattle.sheet.specs.declared.form.Line.{Line}
-use Rattle.sheet.specs.declared.form.Checked.{Checked}
 use Rattle.sheet.specs.declared.form.Checked.the-variants.{Accepted, TooLong, Surrogate, WorkTooShort, Offends}
-use Rattle.sheet.specs.Form.{then, between, takeWord, labelForm, itemForm, pairForm, repeatForm, listForm, nodeForm, lineOf, lineHead, lineForm, endForm, linesForm, sheetForm}
+use Rattle.sheet.specs.Form.{then, between, takeWord, labelForm, itemForm, pairForm, repeatForm, listForm, nodeForm, lineHead, lineForm, endForm, linesForm, sheetForm}
 use Rattle.sheet.specs.Check.{hasSurrogate, isTooLong, formChecked, checked}
 use Rattle.sheet.proofs.Walks.{then-stop, then-go, pick-yes, pick-no, pick-behind, told, either-yes, either-no}
 

@@ -1,5 +1,5 @@
 -- A line of an accepted sheet has at least three words: its length, its label or the absence of one, its count.
-use mathlib.Core.Path.{_≡_, refl, sym, _∙_}
+use mathlib.Core.Path.{_≡_, refl}
 use mathlib.Core.Bool.{Bool, true, false}
 use mathlib.Core.List.{List}
 use Prim.Native.Nat.{ℕ, zero, suc, _+_, _*_, _≤_, _<_}
@@ -15,10 +15,9 @@ use Rattle.sheet.specs.declared.form.Walk.{Walk}
 use Rattle.sheet.specs.declared.form.Walk.the-variants.{Behind, Stops}
 use Rattle.sheet.specs.declared.form.Line.{Line}
 use Rattle.sheet.specs.declared.form.Sort.the-variants.{Stmt}
-use Rattle.sheet.specs.declared.form.Checked.{Checked}
-use Rattle.sheet.specs.declared.form.Checked.the-variants.{Accepted, TooLong, Surrogate, WorkTooShort, Offends}
+use Rattle.sheet.specs.declared.form.Checked.the-variants.{Accepted, TooLong, Surrogate, WorkTooShort}
 use Rattle.sheet.specs.Check.{formChecked, isTooLong, hasSurrogate, checked}
-use Rattle.sheet.specs.Form.{then, isAbsent, takeWord, absentForm, inLine, rangeForm, labelForm, repeatForm, listForm, nodeForm, lineOf, lineHead, lineForm, endForm, linesForm, sheetForm}
+use Rattle.sheet.specs.Form.{then, isAbsent, takeWord, absentForm, inLine, rangeForm, labelForm, listForm, nodeForm, lineOf, lineHead, lineForm, endForm, linesForm, sheetForm}
 use Rattle.walk.proofs.Steps.{Ends, repeat-ends, node-ends}
 use Rattle.sheet.proofs.Walks.{pick-behind}
 use Rattle.walk.proofs.Cycle.{kind-inside, next-inside}

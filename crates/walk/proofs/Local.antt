@@ -2,7 +2,7 @@
 use mathlib.Core.Path.{_≡_, refl, sym, ap, _∙_}
 use mathlib.Core.Bool.{Bool, true, false}
 use mathlib.Core.List.{List, [], _∷_}
-use Prim.Native.Nat.{ℕ, zero, suc, _+_, _-_, _≤_, _<_}
+use Prim.Native.Nat.{ℕ, zero, suc, _+_, _≤_, _<_}
 use native.Mathlib.Omega.{arith}
 use borrow.Author.Tests.{ltb-true, ltb-false, lt-ltb, le-ltb}
 use lib.Dec.{ltb, leb, eqb}
@@ -21,13 +21,13 @@ use Rattle.sheet.specs.declared.form.Offence.the-variants.{BadWord, TooDeep, Ba
 use Rattle.sheet.specs.declared.form.Walk.{Walk}
 use Rattle.sheet.specs.declared.form.Walk.the-variants.{Behind, Stops}
 use Rattle.sheet.specs.declared.form.Line.{Line}
-use Rattle.sheet.specs.Table.{exprTable, stmtTable, exprFields, stmtFields, nodeKind, mayStand, exprRange, ownRange, fieldsOf, isFseek}
+use Rattle.sheet.specs.Table.{exprTable, stmtTable, exprFields, stmtFields, nodeKind, mayStand, ownRange, fieldsOf, isFseek}
 use Rattle.sheet.specs.Parts.{highFits, lowFits, lacksUnit}
 use Rattle.sheet.specs.Check.{offencePlace}
-use Rattle.sheet.specs.Form.{then, isAbsent, isName, hasUnit, isNameRange, takeWord, absentForm, countForm, nonEmptyForm, highForm, lowForm, numberForm, headForm, fseekForm, inLine, rangeForm, textForm, datumForm, labelForm, nameForm, sourceRest, elementRest, itemForm, pairForm, repeatForm, listForm, timesForm, fieldForm, fieldsForm, bodyForm, nodeForm, lineOf, lineHead, lineForm, endForm, linesForm, sheetForm}
-use Rattle.walk.proofs.Steps.{Steps, Ends, endOf, to-next, high-ends, low-ends, range-ends, word-ends, item-ends, pair-ends, repeat-ends, list-ends, fields-ends, body-ends, node-ends, label-ends}
-use Rattle.walk.proofs.Accepted.{Lands, lands-at, lands-never, lands-pick, lands-then, word-lands, non-empty-lands, high-lands, head-lands, range-lands}
-use Rattle.walk.proofs.Within.{line-ends, end-ends, lines-ends}
+use Rattle.sheet.specs.Form.{then, isAbsent, hasUnit, isNameRange, takeWord, absentForm, nonEmptyForm, highForm, lowForm, numberForm, headForm, fseekForm, inLine, rangeForm, textForm, datumForm, labelForm, nameForm, sourceRest, elementRest, itemForm, pairForm, repeatForm, listForm, timesForm, fieldForm, fieldsForm, bodyForm, nodeForm, lineOf, lineHead, lineForm, endForm, linesForm, sheetForm}
+use Rattle.walk.proofs.Steps.{Ends, endOf, to-next, high-ends, low-ends, range-ends, word-ends, item-ends, pair-ends, repeat-ends, list-ends, fields-ends, body-ends, node-ends, label-ends}
+use Rattle.walk.proofs.Accepted.{Lands, lands-at, lands-never, lands-pick, lands-then, word-lands, non-empty-lands, head-lands, range-lands}
+use Rattle.walk.proofs.Within.{line-ends, lines-ends}
 
 -- how many words decide a walk: those before its end, or those up to the offending one and one word more
 abbrev pub reads : Walk → ℕ

@@ -1,17 +1,15 @@
 -- Laws of the quick walk: a place other than 0 is where the walk ends.
-use mathlib.Core.Path.{_≡_, refl, sym, ap, _∙_}
+use mathlib.Core.Path.{_≡_, refl, sym, _∙_}
 use mathlib.Core.Bool.{Bool, true, false}
-use mathlib.Core.List.{List, [], _∷_}
-use Prim.Native.Nat.{ℕ, zero, suc, _+_, _-_, _≤_, _<_}
-use native.Mathlib.Omega.{arith}
-use lib.ListN.{length, getD}
+use mathlib.Core.List.{List}
+use Prim.Native.Nat.{ℕ, zero, suc, _+_, _-_, _≤_}
+use lib.ListN.{getD}
 use Rattle.recorder.specs.Word.{choose, payloadAt}
-use Rattle.sheet.specs.declared.form.Item.{Item}
 use Rattle.sheet.specs.declared.form.Item.the-variants.{Nothing, Node}
 use Rattle.sheet.specs.declared.form.Sort.{Sort}
 use Rattle.sheet.specs.declared.form.Sort.the-variants.{Expr, Place, InputPlace, Stmt}
 use Rattle.sheet.specs.declared.form.Walk.{Walk}
-use Rattle.sheet.specs.declared.form.Walk.the-variants.{Behind, Stops}
+use Rattle.sheet.specs.declared.form.Walk.the-variants.{Behind}
 use Rattle.sheet.specs.declared.form.Line.{Line}
 use Rattle.sheet.specs.Table.{exprRange, ownRange, isFseek}
 use Rattle.sheet.specs.Parts.{fieldStarts, fieldsFrom, caseOf}

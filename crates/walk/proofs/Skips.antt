@@ -1,12 +1,12 @@
 -- The place behind a part: at or behind its start, and within the sheet if that is. One law for each way out of the code.
-use mathlib.Core.Path.{_≡_, refl, sym, ap, _∙_}
+use mathlib.Core.Path.{_≡_, refl, sym, _∙_}
 use mathlib.Core.Bool.{Bool, true, false}
 use mathlib.Core.List.{List, [], _∷_}
 use Prim.Native.Nat.{ℕ, zero, suc, _+_, _-_, _≤_, _<_}
 use native.Mathlib.Omega.{arith}
-use borrow.Author.Tests.{le-ltb, lt-ltb}
+use borrow.Author.Tests.{le-ltb}
 use lib.ListN.{length, getD, List·getD-eq-default}
-use Rattle.recorder.specs.Word.{pick, choose, payloadAt, next}
+use Rattle.recorder.specs.Word.{choose, payloadAt, next}
 use Rattle.sheet.specs.declared.form.Item.{Item}
 use Rattle.sheet.specs.declared.form.Item.the-variants.{Nothing, Word, Range as range, Name as name, OptionalName as optionalName, Text as text, Node, Number as number, OptionalLabel as optionalLabel, Source as source, Element as element, Datum as datum}
 use Rattle.sheet.specs.declared.form.Sort.{Sort}

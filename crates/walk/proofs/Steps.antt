@@ -1,29 +1,28 @@
 -- Where a walk can end: at or behind its start, and within the sheet.
-use mathlib.Core.Path.{_≡_, refl, sym, ap, _∙_}
+use mathlib.Core.Path.{_≡_, refl}
 use mathlib.Core.Bool.{Bool, true, false}
 use mathlib.Core.List.{List, [], _∷_}
-use Prim.Native.Nat.{ℕ, zero, suc, _+_, _-_, _≤_, _<_}
+use Prim.Native.Nat.{ℕ, zero, suc, _+_, _≤_, _<_}
 use native.Mathlib.Omega.{arith}
-use borrow.Author.Tests.{ltb-true, ltb-false, leb-true, eqb-true}
-use lib.Dec.{ltb, leb, eqb}
-use lib.ListN.{length, getD, List·getD-eq-default}
-use Rattle.recorder.specs.Word.{pick, choose, both, either, kindAt, payloadAt, next, rangeAt}
+use borrow.Author.Tests.{ltb-true}
+use lib.Dec.{ltb, eqb}
+use lib.ListN.{length}
+use Rattle.recorder.specs.Word.{pick, choose, both, kindAt, payloadAt, next, rangeAt}
 use Rattle.sheet.specs.declared.form.Item.{Item}
 use Rattle.sheet.specs.declared.form.Item.the-variants.{Nothing, Word, Range as range, Name as name, OptionalName as optionalName, Text as text, Node, Number as number, OptionalLabel as optionalLabel, Source as source, Element as element, Datum as datum}
 use Rattle.sheet.specs.declared.form.Sort.{Sort}
-use Rattle.sheet.specs.declared.form.Sort.the-variants.{Expr, Place, InputPlace, Stmt}
+use Rattle.sheet.specs.declared.form.Sort.the-variants.{Expr}
 use Rattle.sheet.specs.declared.form.Times.{Times}
 use Rattle.sheet.specs.declared.form.Times.the-variants.{Once, Optional, List as Listed, NonEmpty, OptionalList}
 use Rattle.sheet.specs.declared.form.Field.{Field}
-use Rattle.sheet.specs.declared.form.Offence.{Offence}
-use Rattle.sheet.specs.declared.form.Offence.the-variants.{BadWord, TooDeep, BadLength, BadRange, Fseek}
+use Rattle.sheet.specs.declared.form.Offence.the-variants.{BadWord, BadRange}
 use Rattle.sheet.specs.declared.form.Walk.{Walk}
 use Rattle.sheet.specs.declared.form.Walk.the-variants.{Behind, Stops}
 use Rattle.sheet.specs.declared.form.Line.{Line}
 use Rattle.sheet.specs.Table.{nodeKind, mayStand, ownRange, fieldsOf, isFseek}
 use Rattle.sheet.specs.Check.{offencePlace}
 use Rattle.sheet.specs.Parts.{highFits, lowFits, lacksUnit}
-use Rattle.sheet.specs.Form.{then, isAbsent, hasUnit, isNameRange, takeWord, absentForm, countForm, nonEmptyForm, highForm, lowForm, numberForm, headForm, fseekForm, inLine, rangeForm, textForm, datumForm, labelForm, nameForm, sourceRest, elementRest, itemForm, pairForm, repeatForm, listForm, timesForm, fieldForm, fieldsForm, bodyForm, nodeForm, lineOf, lineHead, lineForm, endForm, linesForm, sheetForm}
+use Rattle.sheet.specs.Form.{then, isAbsent, hasUnit, isNameRange, takeWord, absentForm, nonEmptyForm, highForm, lowForm, numberForm, headForm, inLine, rangeForm, textForm, datumForm, labelForm, nameForm, sourceRest, elementRest, itemForm, pairForm, repeatForm, listForm, timesForm, fieldForm, fieldsForm, bodyForm, nodeForm}
 
 -- where a walk ends or offends
 abbrev pub endOf : Walk → ℕ

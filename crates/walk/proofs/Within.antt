@@ -1,26 +1,25 @@
 -- What is read of a sheet stands within it: the places that the form's definitions name.
-use mathlib.Core.Path.{_≡_, refl, sym, ap, _∙_}
+use mathlib.Core.Path.{_≡_, refl, sym}
 use mathlib.Core.Bool.{Bool, true, false}
-use mathlib.Core.List.{List, [], _∷_}
-use Prim.Native.Nat.{ℕ, zero, suc, _+_, _-_, _≤_, _<_}
+use mathlib.Core.List.{List}
+use Prim.Native.Nat.{ℕ, zero, suc, _+_, _≤_, _<_}
 use native.Mathlib.Omega.{arith}
-use borrow.Author.Tests.{ltb-true, ltb-false}
+use borrow.Author.Tests.{ltb-false}
 use lib.Dec.{ltb, leb}
 use lib.ListN.{length}
 use Rattle.recorder.specs.Word.{pick, payloadAt}
 use Rattle.sheet.specs.declared.form.Sort.{Sort}
-use Rattle.sheet.specs.declared.form.Sort.the-variants.{Expr, Place, InputPlace, Stmt}
+use Rattle.sheet.specs.declared.form.Sort.the-variants.{Stmt}
 use Rattle.sheet.specs.declared.form.Offence.{Offence}
 use Rattle.sheet.specs.declared.form.Offence.the-variants.{BadWord, TooDeep, BadLength, Fseek}
 use Rattle.sheet.specs.declared.form.Walk.{Walk}
 use Rattle.sheet.specs.declared.form.Walk.the-variants.{Behind, Stops}
 use Rattle.sheet.specs.declared.form.Line.{Line}
-use Rattle.sheet.specs.declared.form.Checked.{Checked}
-use Rattle.sheet.specs.declared.form.Checked.the-variants.{Accepted, TooLong, Surrogate, WorkTooShort, Offends}
+use Rattle.sheet.specs.declared.form.Checked.the-variants.{TooLong, Surrogate, WorkTooShort}
 use Rattle.sheet.specs.Table.{isFseek}
 use Rattle.sheet.specs.Check.{offencePlace, refusalPlace, formChecked, isTooLong, hasSurrogate, checked}
-use Rattle.sheet.specs.Form.{then, takeWord, headForm, fseekForm, labelForm, listForm, bodyForm, nodeForm, lineOf, lineHead, lineForm, endForm, linesForm, sheetForm}
-use Rattle.walk.proofs.Steps.{Steps, Ends, endOf, here, further, pick-ends, back-ends, then-ends, from-later, behind-ends, word-ends, label-ends, list-ends, body-ends, node-ends}
+use Rattle.sheet.specs.Form.{then, takeWord, headForm, fseekForm, bodyForm, nodeForm, lineOf, lineHead, lineForm, endForm, linesForm, sheetForm}
+use Rattle.walk.proofs.Steps.{Steps, Ends, here, pick-ends, back-ends, then-ends, from-later, behind-ends, word-ends, label-ends, list-ends, body-ends, node-ends}
 use Rattle.walk.proofs.Cycle.{head-moves}
 use Rattle.walk.proofs.Lines.{then-first}
 

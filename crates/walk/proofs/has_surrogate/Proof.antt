@@ -17,39 +17,39 @@ Inv-loop text i₀ i = hasSurrogate (drop i text) ≡ hasSurrogate text
 abbrev μ-loop : tie.MeasureT-loop
 μ-loop text i₀ i = length text - i
 
--- src/lib.rt:16:5
+-- src/lib.rt:15:5
 loop-holds : tie.Need-loop-holds Inv-loop μ-loop
 loop-holds c = refl
 
--- src/lib.rt:17:39
+-- src/lib.rt:16:39
 mul-within : tie.Need-mul-within Inv-loop μ-loop
 mul-within c = search needs
 
--- src/lib.rt:17:39
+-- src/lib.rt:16:39
 shared-slice-read-within : tie.Need-shared-slice-read-within Inv-loop μ-loop
 shared-slice-read-within c = search needs
 
--- src/lib.rt:17:12
+-- src/lib.rt:16:12
 within-requires : tie.Need-within-requires Inv-loop μ-loop
 within-requires c κs = search needs
 
--- src/lib.rt:18:13
+-- src/lib.rt:17:13
 returns : tie.Need-returns Inv-loop μ-loop
 returns c = units-found (c .before .before .before .before .before .before .args .text .now) _ _ _ (c .before .before .before .loop-test .taken) (c .before .within .ensures) (c .if1 .taken) (c .before .before .before .before .loop .inv)
 
--- src/lib.rt:20:13
+-- src/lib.rt:19:13
 add-i : tie.Need-add-i Inv-loop μ-loop
 add-i c = search needs
 
--- src/lib.rt:16:5
+-- src/lib.rt:15:5
 loop-less : tie.Need-loop-less Inv-loop μ-loop
 loop-less c = omega arith
 
--- src/lib.rt:16:5
+-- src/lib.rt:15:5
 loop-again : tie.Need-loop-again Inv-loop μ-loop
 loop-again c = units-step (c .before .before .before .before .before .before .args .text .now) _ _ _ (c .before .before .before .loop-test .taken) (c .before .within .ensures) (c .if1 .left) (c .before .before .before .before .loop .inv)
 
--- src/lib.rt:12:1
+-- src/lib.rt:11:1
 returns-2 : tie.Need-returns-2 Inv-loop μ-loop
 returns-2 c = units-none (c .before .before .before .args .text .now) _ _ (c .loop-test .left) (c .before .loop .inv)
 
