@@ -1,5 +1,5 @@
 -- One law for each way out of a function: its premises are what the calls on that way ensure, its conclusion is the contract.
-use mathlib.Core.Path.{_≡_, sym as inv, _∙_}
+use mathlib.Core.Path.{_≡_, sym as inv, ap, _∙_}
 use mathlib.Core.List.{List}
 use mathlib.Core.Bool.{Bool, true, false}
 use Prim.Native.Nat.{ℕ, _+_, _-_, _≤_, _<_}
@@ -20,7 +20,7 @@ use Rattle.rules.specs.Name.{readName}
 use Rattle.rules.specs.declared.tables.Sig.{Sig}
 use Rattle.rules.specs.Tables.{signatureOf, signatureFor}
 use Rattle.rules.specs.Name.{textPlace}
-use Rattle.rules.specs.Expr.{out, compileSym, checkType, checkReal, realSym, funcName, varNode, varPlace, endsInQuote, quotedLength, quotedStart, textNode, numberNode, tabNote, arityNotes, funcNotes, funcNode, userCall, likeCall, likeType, unlikeType, likeNode, arithNode, binaryNode, unaryNode, indexNode, indexPlace}
+use Rattle.rules.specs.Expr.{out, symOf, blankNote, compileSym, checkType, checkReal, realSym, funcName, varNode, varPlace, endsInQuote, quotedLength, quotedStart, textNode, numberNode, tabNote, arityNotes, funcNotes, funcNode, userCall, likeCall, likeType, unlikeType, likeNode, arithNode, binaryNode, unaryNode, indexNode, indexPlace}
 use Rattle.nodes.specs.declared.node.OptRange.{OptRange}
 use Rattle.nodes.specs.declared.node.OptRange.the-variants.{Given, Absent}
 use Rattle.nodes.specs.Done.{sym, named, optOf}
@@ -54,15 +54,19 @@ unfolding checkType
 check-note want ty r n n′ s s′ b e h p t l k base = let f : matchesType ty want ≡ false = inv e ∙ h in rw (f, p .0, p .1)
 
 -- names
-pub sym-lost : (t n n′ b b′ : List ℕ) (base : ℕ) (r : Range) (s s1 s2 : St) (x : Name) (v : ℕ) → x ≡ readName t base r → 0 < x .lost → Noted 10 r 2 n n′ s s1
+pub blank-lost : (n n′ : List ℕ) (r : Range) (s s′ : St) (lost : ℕ) → 0 < lost → Noted 10 r 2 n n′ s s′
+    → (t l b : List ℕ) (base : ℕ) → mem l n′ b s′ ≡ blankNote (memR t) t base lost r (mem l n b s)
+blank-lost n n′ r s s′ lost h p t l b base = rw (lt-ltb 0 lost h, p .0, p .1)
+
+pub blank-none : (n : List ℕ) (r : Range) (s : St) (lost : ℕ) → lost ≤ 0 → (t l b : List ℕ) (base : ℕ) → mem l n b s ≡ blankNote (memR t) t base lost r (mem l n b s)
+blank-none n r s lost h t l b base = rw (le-ltb 0 lost h)
+
+pub sym-made : (t n n′ b b′ : List ℕ) (base : ℕ) (r : Range) (s s1 s2 : St) (x : Name) (v : ℕ) → x ≡ readName t base r
+    → ((t l b : List ℕ) (base : ℕ) → mem l n′ b s1 ≡ blankNote (memR t) t base (x .lost) r (mem l n b s))
     → Symbol t (x .start) (x .len) (x .sigil) b b′ s1 s2 v → (l : List ℕ) → sym (mem l n′ b′ s2) v (x .ty) ≡ compileSym (memR t) t base r (mem l n b s)
 unfolding compileSym
-sym-lost t n n′ b b′ base r s s1 s2 x v e h p q l = rw (← e, lt-ltb _ _ h, q .0, q .1, q .2, p .0, p .1)
-
-pub sym-kept : (t n b b′ : List ℕ) (base : ℕ) (r : Range) (s s2 : St) (x : Name) (v : ℕ) → x ≡ readName t base r → x .lost ≤ 0
-    → Symbol t (x .start) (x .len) (x .sigil) b b′ s s2 v → (l : List ℕ) → sym (mem l n b′ s2) v (x .ty) ≡ compileSym (memR t) t base r (mem l n b s)
-unfolding compileSym
-sym-kept t n b b′ base r s s2 x v e h q l = rw (← e, le-ltb _ _ h, q .0, q .1, q .2)
+sym-made t n n′ b b′ base r s s1 s2 x v e p q l =
+    rw (← e, q .0, q .1, q .2) (ap (λ (m : Mem). symOf (memR t) t base (x .ty) (memR t .symbol m (x .start) (x .len) (x .sigil))) (p t l b base))
 
 -- what a call of the recorder ensures, of the whole memory
 pub put-at : (l l′ n b : List ℕ) (s s′ : St) (h w x y z : ℕ) → (l′ ≡ putList l s h w x y z) × (s′ ≡ putSt l s) → mem l′ n b s′ ≡ mem (putList l s h w x y z) n b (putSt l s)

@@ -10,7 +10,7 @@ ghost use Rattle.recorder.specs.Mem.{mem, memR};
 ghost use Rattle.sheet.specs.Tree.{optAt};
 ghost use Rattle.recorder.specs.Word.{rangeAt};
 ghost use Rattle.rules.specs.Tables.{signatureOf};
-ghost use Rattle.rules.specs.Expr.{out, compileSym, checkType, checkReal, realSym, varNode, varPlace, quotedStart, tabNote, likeType, unlikeType, likeCall, textNode, numberNode, arityNotes, funcNotes, funcNode, funcName, userCall, likeNode, arithNode, binaryNode, unaryNode, indexNode, indexPlace, quotedLength, endsInQuote};
+ghost use Rattle.rules.specs.Expr.{out, blankNote, compileSym, checkType, checkReal, realSym, varNode, varPlace, quotedStart, tabNote, likeType, unlikeType, likeCall, textNode, numberNode, arityNotes, funcNotes, funcNode, funcName, userCall, likeNode, arithNode, binaryNode, unaryNode, indexNode, indexPlace, quotedLength, endsInQuote};
 ghost use Rattle.nodes.specs.Done.{sym, named, optOf};
 
 // A range that may be absent.
@@ -53,7 +53,18 @@ pub fn check_type(notes: &mut [u32], st: St, want: Type, r: Range, ty: Type) -> 
     }
 }
 
-// A name: a warning where units are lost, then its symbol.
+// A warning where units of a name are lost.
+fn blank_note(notes: &mut [u32], st: St, lost: u32, r: Range) -> St
+    ensures { λ x. ⌜ ((t l b : List ℕ) (base : ℕ) → mem l (now (notes .exit)) b x ≡ blankNote (memR t) t base lost r (mem l (now (notes .entry)) b st)) ⌝ }
+{
+    if 0 < lost {
+        recorder::codegen::note(notes, st, 10, r, 2)
+    } else {
+        st
+    }
+}
+
+// A name: the warning, then its symbol.
 pub fn compile_sym(
     text: &[u16],
     notes: &mut [u32],
@@ -66,23 +77,13 @@ pub fn compile_sym(
 {
     let n = rules::name::read_name(text, base, r);
     let ty = n.ty;
-    if 0 < n.lost {
-        let s = recorder::codegen::note(notes, st, 10, r, 2);
-        let y = recorder::codegen::make_symbol(text, book, s, n.start, n.len, n.sigil);
-        let ys = y.st;
-        Sym {
-            st: ys,
-            number: y.number,
-            ty,
-        }
-    } else {
-        let y = recorder::codegen::make_symbol(text, book, st, n.start, n.len, n.sigil);
-        let ys = y.st;
-        Sym {
-            st: ys,
-            number: y.number,
-            ty,
-        }
+    let s = blank_note(notes, st, n.lost, r);
+    let y = recorder::codegen::make_symbol(text, book, s, n.start, n.len, n.sigil);
+    let ys = y.st;
+    Sym {
+        st: ys,
+        number: y.number,
+        ty,
     }
 }
 

@@ -17,7 +17,7 @@ use Rattle.recorder.specs.declared.word.Range.{Range}
 use Rattle.recorder.specs.Word.{pick, both, kind, payloadAt, wordOf, rangeWord, next}
 use Rattle.recorder.specs.Name.{upper, sameUnits, sameName}
 use Rattle.recorder.specs.Ideal.{firstOf}
-use Rattle.recorder.specs.Mem.{listRoom, putList, putRec, putSt, withRecords, four, more, low, known, sigilCode, withLink, isName, namedAt, lookup, mix, turnsOf, onward, wayFrom, wayTo, seek, mayLink, linkedAt, linked, rootOf, symbolNumber, symbolList, symbolSt, entryList, entrySt, noteList, noteSt, withNames, withNotes, withEntries, part, atRec, onRec}
+use Rattle.recorder.specs.Mem.{listRoom, putList, putRec, putSt, withRecords, four, more, low, known, sigilCode, withLink, isName, namedAt, lookup, mix, turnsOf, onward, wayFrom, wayTo, seek, mayLink, linkedAt, linked, rootOf, newList, newSt, symbolNumber, symbolList, symbolSt, entryList, entrySt, noteList, noteSt, withNames, withNotes, withEntries, part, atRec, onRec}
 use Rattle.recorder.proofs.Bools.{both-false}
 
 -- the units' loop: one turn, a difference, the end
@@ -191,39 +191,35 @@ entry-same : (b b₁ : List ℕ) (st : St) → length b₁ ≡ length b → entr
 unfolding entrySt
 entry-same b b₁ st e = rw e
 
-sought : (t b : List ℕ) (st : St) (x n g k : ℕ) (w : Way) → w ≡ wayTo t b st x n g
+pub sought : (t b : List ℕ) (st : St) (x n g k : ℕ) (w : Way) → w ≡ wayTo t b st x n g
     → k ≡ pick (both (ltb 0 (st .root)) (both (ltb (w .at) (known b st)) (namedAt t b (w .at) x n g))) (w .at) (lookup t b x n g (min (known b st) 32768) (known b st - 32768))
-    → k ≡ seek t b st x n g
+    → (w ≡ wayTo t b st x n g) × (k ≡ seek t b st x n g)
 unfolding seek
-sought t b st x n g k w a e = e ∙ rw a
+sought t b st x n g k w a e = (a, e ∙ rw a)
 
-link-of : (t b b₁ : List ℕ) (st : St) (x n g : ℕ) (w : Way) → w ≡ wayTo t b st x n g
-    → b₁ ≡ pick (both (ltb 0 (st .root)) (mayLink b st)) (linkedAt b (st .entries) w) b → b₁ ≡ linked t b st x n g
+link-of : (t b : List ℕ) (st : St) (x n g : ℕ) (w : Way) → w ≡ wayTo t b st x n g
+    → pick (both (ltb 0 (st .root)) (mayLink b st)) (linkedAt b (st .entries) w) b ≡ linked t b st x n g
 unfolding linked
-link-of t b b₁ st x n g w a f = f ∙ rw a
+link-of t b st x n g w a = rw a
 
--- a name that is in the book, and one that is not
-pub symbol-found : (t b : List ℕ) (st : St) (x n g k m v : ℕ) (w : Way) → w ≡ wayTo t b st x n g
-    → k ≡ pick (both (ltb 0 (st .root)) (both (ltb (w .at) (known b st)) (namedAt t b (w .at) x n g))) (w .at) (lookup t b x n g (min (known b st) 32768) (known b st - 32768))
-    → m ≡ known b st → k < m → v ≡ payloadAt b (4 * k)
-    → (b ≡ symbolList t b st x n g) × (st ≡ symbolSt t b st x n g) × (v ≡ symbolNumber t b st x n g)
-unfolding symbolList symbolSt symbolNumber
-symbol-found t b st x n g k m v w a e i h j =
-    let q : k ≡ seek t b st x n g = sought t b st x n g k w a e in
-    let l = lt-ltb _ _ (rw (q, i) at h) in
-    (rw l, rw l, rw l (rw q at j))
-
-pub symbol-new : (t b b₁ b₂ : List ℕ) (st s s′ : St) (x n g c k m v u h o : ℕ) (w : Way) → w ≡ wayTo t b st x n g
-    → k ≡ pick (both (ltb 0 (st .root)) (both (ltb (w .at) (known b st)) (namedAt t b (w .at) x n g))) (w .at) (lookup t b x n g (min (known b st) 32768) (known b st - 32768))
-    → m ≡ known b st → m ≤ k → b₁ ≡ pick (both (ltb 0 (st .root)) (mayLink b st)) (linkedAt b (st .entries) w) b
+pub new-name : (b b₁ b₂ : List ℕ) (st s s′ : St) (x n g c v u h o : ℕ) (w : Way) → b₁ ≡ pick (both (ltb 0 (st .root)) (mayLink b st)) (linkedAt b (st .entries) w) b
     → v ≡ low (st .names) → u ≡ more (st .names) (length b / 4) → o ≡ rootOf b st → h ≡ wordOf 50 v → c ≡ sigilCode g
     → (b₂ ≡ entryList b₁ st h x n c) × (s ≡ entrySt b₁ st) → s′ ≡ withNames s u o
-    → (b₂ ≡ symbolList t b st x n g) × (s′ ≡ symbolSt t b st x n g) × (v ≡ symbolNumber t b st x n g)
+    → (b₂ ≡ newList b st w x n g) × (s′ ≡ newSt b st) × (v ≡ low (st .names))
+new-name b b₁ b₂ st s s′ x n g c v u h o w f p q r y z d β =
+    (d .0 ∙ rw (f, y, p, z), β ∙ rw (d .1, q, r, entry-same b b₁ st (linked-same b b₁ st w f)), p)
+
+-- a name that is in the book, and one that is not
+pub symbol-found : (t b : List ℕ) (st : St) (x n g k m v : ℕ) → k ≡ seek t b st x n g → m ≡ known b st → k < m → v ≡ payloadAt b (4 * k)
+    → (b ≡ symbolList t b st x n g) × (st ≡ symbolSt t b st x n g) × (v ≡ symbolNumber t b st x n g)
 unfolding symbolList symbolSt symbolNumber
-symbol-new t b b₁ b₂ st s s′ x n g c k m v u h o w a e i j f p q r y z d β =
-    let l = le-ltb _ _ (rw (sought t b st x n g k w a e, i) at j) in
-    let f′ : b₁ ≡ linked t b st x n g = link-of t b b₁ st x n g w a f in
-    (rw l (d .0 ∙ rw (f′, y, p, z)), rw l (β ∙ rw (d .1, q, r, entry-same b b₁ st (linked-same b b₁ st w f))), rw l p)
+symbol-found t b st x n g k m v q i h j = let l = lt-ltb _ _ (rw (q, i) at h) in (rw l, rw l, rw l (rw q at j))
+
+pub symbol-new : (t b b′ : List ℕ) (st s : St) (x n g k m v : ℕ) (w : Way) → w ≡ wayTo t b st x n g → k ≡ seek t b st x n g → m ≡ known b st → m ≤ k
+    → (b′ ≡ newList b st w x n g) × (s ≡ newSt b st) × (v ≡ low (st .names))
+    → (b′ ≡ symbolList t b st x n g) × (s ≡ symbolSt t b st x n g) × (v ≡ symbolNumber t b st x n g)
+unfolding symbolList symbolSt symbolNumber
+symbol-new t b b′ st s x n g k m v w a q i j d = let l = le-ltb _ _ (rw (q, i) at j) in (rw l (d .0 ∙ rw (link-of t b st x n g w a)), rw l (d .1), rw l (d .2))
 
 -- a note, an entry: it fits, it does not
 pub note-in : (l l′ : List ℕ) (st s : St) (h w v : ℕ) (f : Bool) → (l′ ≡ pick (ltb (st .notes) (length l / 4)) (four l (st .notes) h w v 0) l) × (f ≡ ltb (st .notes) (length l / 4)) → f ≡ true

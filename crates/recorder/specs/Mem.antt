@@ -168,6 +168,13 @@ linked t b s x n g = pick (both (ltb 0 (s .root)) (mayLink b s)) (linkedAt b (s 
 unfoldable pub rootOf : List ℕ → St → ℕ
 rootOf b s = pick (both (eqb (s .root) 0) (mayLink b s)) (s .entries + 1) (s .root)
 
+-- a new name, whose way ends at w: linked, and put as the next entry
+abbrev pub newList : List ℕ → St → Way → ℕ → ℕ → ℕ → List ℕ
+newList b s w x n g = entryList (pick (both (ltb 0 (s .root)) (mayLink b s)) (linkedAt b (s .entries) w) b) s (wordOf 50 (low (s .names))) x n (sigilCode g)
+
+abbrev pub newSt : List ℕ → St → St
+newSt b s = withNames (entrySt b s) (more (s .names) (length b / 4)) (rootOf b s)
+
 unfoldable pub symbolNumber : List ℕ → List ℕ → St → ℕ → ℕ → ℕ → ℕ
 symbolNumber t b s x n g = pick (ltb (seek t b s x n g) (known b s)) (payloadAt b (4 * seek t b s x n g)) (low (s .names))
 
@@ -175,7 +182,7 @@ unfoldable pub symbolList : List ℕ → List ℕ → St → ℕ → ℕ → ℕ
 symbolList t b s x n g = pick (ltb (seek t b s x n g) (known b s)) b (entryList (linked t b s x n g) s (wordOf 50 (low (s .names))) x n (sigilCode g))
 
 unfoldable pub symbolSt : List ℕ → List ℕ → St → ℕ → ℕ → ℕ → St
-symbolSt t b s x n g = pick (ltb (seek t b s x n g) (known b s)) s (withNames (entrySt b s) (more (s .names) (length b / 4)) (rootOf b s))
+symbolSt t b s x n g = pick (ltb (seek t b s x n g) (known b s)) s (newSt b s)
 
 -- closing up: a name's last word is its sigil again
 abbrev pub unlinkAt : List ℕ → ℕ → List ℕ

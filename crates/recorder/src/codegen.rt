@@ -18,7 +18,7 @@ ghost use lib.ListN.{length, getD, replicate};
 ghost use Rattle.recorder.specs.Word.{pick, both, wordOf, rangeWord};
 ghost use Rattle.recorder.specs.Name.{upper, sameUnits, sameName};
 ghost use Rattle.recorder.specs.Ideal.{firstOf};
-ghost use Rattle.recorder.specs.Mem.{sigilCode, linkOf, withLink, known, namedAt, mix, turnsOf, wayTo, mayLink, linkedAt, nothing, onLine, withRecords, withNotes, withEntries, withNames, withData, withBytes, listRoom, four, low, more, putSt, putRec, noteList, noteSt, entryList, entrySt, isName, lookup, symbolNumber, symbolList, symbolSt, datumList, datumSt, byteList, byteSt, onRec, setA, setB, setC, settleArgs, clearArgs, lookAt};
+ghost use Rattle.recorder.specs.Mem.{sigilCode, linkOf, withLink, known, namedAt, mix, turnsOf, wayTo, mayLink, linkedAt, nothing, onLine, withRecords, withNotes, withEntries, withNames, withData, withBytes, listRoom, four, low, more, putSt, putRec, noteList, noteSt, entryList, entrySt, isName, lookup, seek, newList, newSt, symbolNumber, symbolList, symbolSt, datumList, datumSt, byteList, byteSt, onRec, setA, setB, setC, settleArgs, clearArgs, lookAt};
 
 // The counts, the numbers within the book's three kinds, the first name's entry plus 1 (0 without one), the current line with its first datum plus 1 (0 while it has none),
 // and whether something did not fit.
@@ -47,6 +47,12 @@ pub struct Named {
 pub struct Way {
     pub at: usize,
     pub turns: u32,
+}
+
+// What the search for a name finds: where its way ends, and its entry, or how many are known.
+pub struct Sought {
+    pub way: Way,
+    pub entry: usize,
 }
 
 // What resolution reads of a record.
@@ -360,7 +366,7 @@ fn same_name(text: &[u16], a: u32, n: u32, x: u32, b: u32, m: u32, y: u32) -> bo
     if x != y {
         return false;
     }
-    same_units(text, a as usize, b as usize, n)
+    same_units(&*text, a as usize, b as usize, n)
 }
 
 // A name's last word: a code of its sigil in the low 2 bits, and two entries of later names.
@@ -401,7 +407,7 @@ fn is_named(text: &[u16], h: u32, a: u32, n: u32, y: u32, start: u32, len: u32, 
     if kind_of(h) != 50 {
         return false;
     }
-    same_name(text, a, n, y % 4, start, len, sigil_code(sigil))
+    same_name(&*text, a, n, y % 4, start, len, sigil_code(sigil))
 }
 
 fn named_at(text: &[u16], book: &[u32], k: usize, start: u32, len: u32, sigil: u32) -> bool
@@ -410,11 +416,11 @@ fn named_at(text: &[u16], book: &[u32], k: usize, start: u32, len: u32, sigil: u
     if k < book.len() / 4 {
         let i = 4 * k;
         is_named(
-            text,
-            word_at(book, i),
-            word_at(book, i + 1),
-            word_at(book, i + 2),
-            word_at(book, i + 3),
+            &*text,
+            word_at(&*book, i),
+            word_at(&*book, i + 1),
+            word_at(&*book, i + 2),
+            word_at(&*book, i + 3),
             start,
             len,
             sigil,
@@ -440,7 +446,7 @@ fn find(
     let mut left = less(least(entries, book.len() / 4), from);
     while 0 < left {
         left -= 1;
-        if named_at(text, book, k, start, len, sigil) {
+        if named_at(&*text, &*book, k, start, len, sigil) {
             return k;
         }
         k += 1;
@@ -498,14 +504,14 @@ fn way_to(text: &[u16], book: &[u32], st: St, start: u32, len: u32, sigil: u32) 
 {
     let end = least(st.entries, book.len() / 4);
     let mut at = less(st.root, 1);
-    let mut turns = turns_of(text, start, sigil_code(sigil), len);
+    let mut turns = turns_of(&*text, start, sigil_code(sigil), len);
     let mut left = end;
     while 0 < left {
         left -= 1;
-        if named_at(text, book, at, start, len, sigil) {
+        if named_at(&*text, &*book, at, start, len, sigil) {
             return Way { at, turns };
         }
-        let k = onward(book, at, turns);
+        let k = onward(&*book, at, turns);
         if k <= at {
             return Way { at, turns };
         }
@@ -579,7 +585,7 @@ fn is_reached(
     if known <= at {
         return false;
     }
-    named_at(text, book, at, start, len, sigil)
+    named_at(&*text, &*book, at, start, len, sigil)
 }
 
 // The entry of a name whose way ends at `at`, or how many are known.
@@ -587,10 +593,50 @@ fn seek(text: &[u16], book: &[u32], st: St, at: usize, start: u32, len: u32, sig
     ensures { λ r. ⌜ r ≡ pick (both (ltb 0 (st .root)) (both (ltb at (known (now (book .entry)) st)) (namedAt (now (text .entry)) (now (book .entry)) at start len sigil))) at (lookup (now (text .entry)) (now (book .entry)) start len sigil (min (known (now (book .entry)) st) 32768) (known (now (book .entry)) st - 32768)) ⌝ }
 {
     let end = least(st.entries, book.len() / 4);
-    if is_reached(text, book, st.root, end, at, start, len, sigil) {
+    if is_reached(&*text, &*book, st.root, end, at, start, len, sigil) {
         return at;
     }
-    find(text, book, start, len, sigil, least(end, 32768), st.entries)
+    find(
+        &*text,
+        &*book,
+        start,
+        len,
+        sigil,
+        least(end, 32768),
+        st.entries,
+    )
+}
+
+// The search for a name. It is apart from what makes one, so that the state is not copied where the name is known.
+fn find_symbol(text: &[u16], book: &[u32], st: St, start: u32, len: u32, sigil: u32) -> Sought
+    ensures { λ r. ⌜ (r .way ≡ wayTo (now (text .entry)) (now (book .entry)) st start len sigil) × (r .entry ≡ seek (now (text .entry)) (now (book .entry)) st start len sigil) ⌝ }
+{
+    let way = way_to(&*text, &*book, st, start, len, sigil);
+    let at = way.at;
+    let entry = seek(&*text, &*book, st, at, start, len, sigil);
+    Sought { way, entry }
+}
+
+// A new name: linked where its way ends, and put into the book.
+fn new_symbol(
+    book: &mut [u32],
+    st: St,
+    at: usize,
+    turns: u32,
+    start: u32,
+    len: u32,
+    sigil: u32,
+) -> Named
+    ensures { λ r. ⌜ (now (book .exit) ≡ newList (now (book .entry)) st (record { at = at; turns = turns }) start len sigil) × (r .st ≡ newSt (now (book .entry)) st) × (r .number ≡ low (st .names)) ⌝ }
+{
+    let room = book.len() / 4;
+    link_next(book, st, at, turns);
+    let number = low_bits(st.names);
+    let names = one_more(st.names, room);
+    let root = root_of(st, room);
+    let s = put_entry(book, st, word_of(50, number), start, len, sigil_code(sigil));
+    let t = with_names(s, names, root);
+    Named { st: t, number }
 }
 
 // The symbol of a name, which is put into the book where it is new.
@@ -604,22 +650,14 @@ pub fn make_symbol(
 ) -> Named
     ensures { λ r. ⌜ (now (book .exit) ≡ symbolList (now (text .entry)) (now (book .entry)) st start len sigil) × (r .st ≡ symbolSt (now (text .entry)) (now (book .entry)) st start len sigil) × (r .number ≡ symbolNumber (now (text .entry)) (now (book .entry)) st start len sigil) ⌝ }
 {
-    let room = book.len() / 4;
-    let way = way_to(text, book, st, start, len, sigil);
-    let at = way.at;
-    let turns = way.turns;
-    let k = seek(text, book, st, at, start, len, sigil);
-    if k < least(st.entries, room) {
+    let f = find_symbol(&*text, book, st, start, len, sigil);
+    let way = f.way;
+    let k = f.entry;
+    if k < least(st.entries, book.len() / 4) {
         let found = payload_at(book, 4 * k);
         return Named { st, number: found };
     }
-    link_next(book, st, at, turns);
-    let number = low_bits(st.names);
-    let names = one_more(st.names, room);
-    let root = root_of(st, room);
-    let s = put_entry(book, st, word_of(50, number), start, len, sigil_code(sigil));
-    let t = with_names(s, names, root);
-    Named { st: t, number }
+    new_symbol(book, st, way.at, way.turns, start, len, sigil)
 }
 
 fn first_of(first: u32, n: usize) -> u32

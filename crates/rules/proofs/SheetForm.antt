@@ -20,14 +20,16 @@ use Rattle.sheet.specs.declared.form.Walk.{Walk}
 use Rattle.sheet.specs.declared.form.Walk.the-variants.{Behind, Stops}
 use Rattle.sheet.specs.declared.form.Line.{Line}
 use Rattle.sheet.specs.declared.form.Offence.the-variants.{BadLength}
-use Rattle.sheet.specs.declared.form.Checked.the-variants.{Accepted, TooLong, Surrogate, WorkTooShort}
-use Rattle.sheet.specs.Table.{one, optional, list, nonEmpty, nonEmpty₂, optionalList, expr, flag, place, inputPlace, stmt, mayStand, stmtTable, exprFields, stmtFields}
+use Rattle.sheet.specs.declared.form.Checked.the-variants.{Accepted}
+use Rattle.sheet.specs.Table.{one, optional, list, nonEmpty, nonEmpty₂, optionalList, expr, flag, place, inputPlace, stmt, mayStand, exprFields, shapeFields}
 use Rattle.sheet.specs.Form
-use Rattle.sheet.specs.Check.{checked, isTooLong, hasSurrogate, formChecked}
+use Rattle.sheet.specs.Check.{checked}
 use Rattle.sheet.specs.Skip.{skipItem, skipPair, skipList, skipTimes, skipField, skipNode, skipSource, skipElement}
 use Rattle.sheet.specs.Tree.{Expr, FieldSpec, WriteElement, Stmt, ifThen, ifElse, then, shapeTable, shapeOf, exprsAt, itemsAt, exprListAt, exprNode, exprAt, stmtsAt, elementOf, ifAt, stmtNode, stmtAt, lineAt, behindLabel, behindLine, lineStmts, programAt}
 use Rattle.sheet.proofs.Walks.{pick-behind}
+use Rattle.sheet.proofs.Shapes.{fields-rule}
 use Rattle.walk.proofs.Lines.{then-first}
+use Rattle.walk.proofs.Within.{Walked, walked}
 use Rattle.walk.proofs.Accepted.{Lands, lands-choose, lands-then, word-lands, range-lands, item-lands, list-lands, field-lands, node-lands, accepted}
 use Rattle.rules.specs.declared.types.«Type».the-variants.{String, Real}
 use Rattle.rules.specs.Missing.{All}
@@ -122,55 +124,6 @@ tests-at (x ∷ xs) n (suc k) m e a = tests-at xs (suc n) k m (omega (arith, e))
 op-test : (k : ℕ) → opTest (shapeOf k) k ≡ true
 unfolding shapeOf
 op-test k = tests-at shapeTable 0 k k (omega arith) refl
-
--- the fields of statements, by their shape
-abbrev fieldsBy : Shape → List Field → List Field
-fieldsBy Rem fs = fs
-fieldsBy NoOp fs = fs
-fieldsBy Op0 fs = fs
-fieldsBy Run fs = fs
-fieldsBy Op1 fs = fs
-fieldsBy Op2 fs = fs
-fieldsBy Op3 fs = fs
-fieldsBy Draw fs = fs
-fieldsBy Set fs = one place ∷ one expr ∷ []
-fieldsBy Data fs = fs
-fieldsBy Def fs = fs
-fieldsBy Dim fs = fs
-fieldsBy Fields fs = one expr ∷ nonEmpty₂ expr place ∷ []
-fieldsBy For fs = fs
-fieldsBy GoSub fs = fs
-fieldsBy GoTo fs = fs
-fieldsBy If fs = one expr ∷ list stmt ∷ optionalList stmt ∷ []
-fieldsBy Input fs = one source ∷ nonEmpty inputPlace ∷ []
-fieldsBy Let fs = one place ∷ one expr ∷ []
-fieldsBy Load fs = fs
-fieldsBy Locate fs = fs
-fieldsBy Next fs = fs
-fieldsBy On fs = fs
-fieldsBy Open fs = fs
-fieldsBy Print fs = list element ∷ []
-fieldsBy Read fs = nonEmpty place ∷ []
-fieldsBy Restore fs = fs
-fieldsBy Swap fs = one place ∷ one place ∷ []
-fieldsBy System fs = fs
-fieldsBy While fs = fs
-fieldsBy Write fs = optional expr ∷ nonEmpty₂ expr flag ∷ []
-
-abbrev fitted : List Shape → List (List Field) → List (List Field)
-fitted [] fs = fs
-fitted (x ∷ xs) [] = fieldsBy x [] ∷ []
-fitted (x ∷ xs) (f ∷ fs) = fieldsBy x f ∷ fitted xs fs
-
-fitted-at : (xs : List Shape) (fs : List (List Field)) (k : ℕ) → fitted xs fs ≡ fs → fieldsBy (getD xs k NoOp) (getD fs k []) ≡ getD fs k []
-fitted-at [] fs k e = refl
-fitted-at (x ∷ xs) [] k e = let y : _≡_ {A = ℕ} 0 1 = cc in absurd (omega arith)
-fitted-at (x ∷ xs) (f ∷ fs) zero e = cc
-fitted-at (x ∷ xs) (f ∷ fs) (suc k) e = fitted-at xs fs k (cc)
-
-fields-fit : (k : ℕ) → fieldsBy (shapeOf k) (stmtFields k) ≡ stmtFields k
-unfolding shapeOf stmtFields
-fields-fit k = fitted-at shapeTable stmtTable k refl
 
 -- the cases of an expression
 module _ (s : List ℕ) (child : ℕ → Expr) (skip : ℕ → ℕ) where
@@ -452,46 +405,46 @@ module _ (s t : List ℕ) (line : Line) where
         go true x u h = x
         go false x u h = (x, stmts-of (payloadAt s m) (next s m) u (list-items child skip (node-lands s t line left) (Form.pairForm s t line child stmt Nothing) m u h))
 
-    shape-of : (x : Shape) (k : ℕ) (r : Range) (at p : ℕ) (fs : List Field) → opTest x k ≡ true → fieldsBy x fs ≡ fs → Fs fs at p → FormedStmt (stmtNode s left (stmtAt s left) x k r at)
+    shape-of : (x : Shape) (k : ℕ) (r : Range) (at p : ℕ) → opTest x k ≡ true → Fs (shapeFields x) at p → FormedStmt (stmtNode s left (stmtAt s left) x k r at)
     unfolding stmtNode
-    shape-of Rem k r at p fs o e f = tt
-    shape-of NoOp k r at p fs o e f = tt
-    shape-of Op0 k r at p fs o e f = plain-op k o
-    shape-of Run k r at p fs o e f = plain-op k o
-    shape-of Op1 k r at p fs o e f = plain-op k o
-    shape-of Op2 k r at p fs o e f = plain-op k o
-    shape-of Op3 k r at p fs o e f = plain-op k o
-    shape-of Draw k r at p fs o e f = draw-op k (both-left (isPlain k) (noText k) o) (both-right (isPlain k) (noText k) o)
-    shape-of Set k r at p fs o e f = (set-op k o, first-place (one expr ∷ []) at p (rw (← e) at f))
-    shape-of Data k r at p fs o e f = tt
-    shape-of Def k r at p fs o e f = tt
-    shape-of Dim k r at p fs o e f = tt
-    shape-of Fields k r at p fs o e f = field-places at p (rw (← e) at f)
-    shape-of For k r at p fs o e f = tt
-    shape-of GoSub k r at p fs o e f = tt
-    shape-of GoTo k r at p fs o e f = tt
-    shape-of If k r at p fs o e f = if-of r at p (rw (← e) at f)
-    shape-of Input k r at p fs o e f = input-places at p (rw (← e) at f)
-    shape-of Let k r at p fs o e f = first-place (one expr ∷ []) at p (rw (← e) at f)
-    shape-of Load k r at p fs o e f = tt
-    shape-of Locate k r at p fs o e f = tt
-    shape-of Next k r at p fs o e f = tt
-    shape-of On k r at p fs o e f = tt
-    shape-of Open k r at p fs o e f = tt
-    shape-of Print k r at p fs o e f = elements at p (rw (← e) at f)
-    shape-of Read k r at p fs o e f = read-places at p (rw (← e) at f)
-    shape-of Restore k r at p fs o e f = tt
-    shape-of Swap k r at p fs o e f = two-places at p (rw (← e) at f)
-    shape-of System k r at p fs o e f = tt
-    shape-of While k r at p fs o e f = tt
-    shape-of Write k r at p fs o e f = write-values at p (rw (← e) at f)
+    shape-of Rem k r at p o f = tt
+    shape-of NoOp k r at p o f = tt
+    shape-of Op0 k r at p o f = plain-op k o
+    shape-of Run k r at p o f = plain-op k o
+    shape-of Op1 k r at p o f = plain-op k o
+    shape-of Op2 k r at p o f = plain-op k o
+    shape-of Op3 k r at p o f = plain-op k o
+    shape-of Draw k r at p o f = draw-op k (both-left (isPlain k) (noText k) o) (both-right (isPlain k) (noText k) o)
+    shape-of Set k r at p o f = (set-op k o, first-place (one expr ∷ []) at p f)
+    shape-of Data k r at p o f = tt
+    shape-of Def k r at p o f = tt
+    shape-of Dim k r at p o f = tt
+    shape-of Fields k r at p o f = field-places at p f
+    shape-of For k r at p o f = tt
+    shape-of GoSub k r at p o f = tt
+    shape-of GoTo k r at p o f = tt
+    shape-of If k r at p o f = if-of r at p f
+    shape-of Input k r at p o f = input-places at p f
+    shape-of Let k r at p o f = first-place (one expr ∷ []) at p f
+    shape-of Load k r at p o f = tt
+    shape-of Locate k r at p o f = tt
+    shape-of Next k r at p o f = tt
+    shape-of On k r at p o f = tt
+    shape-of Open k r at p o f = tt
+    shape-of Print k r at p o f = elements at p f
+    shape-of Read k r at p o f = read-places at p f
+    shape-of Restore k r at p o f = tt
+    shape-of Swap k r at p o f = two-places at p f
+    shape-of System k r at p o f = tt
+    shape-of While k r at p o f = tt
+    shape-of Write k r at p o f = write-values at p f
 
   stmt-tree : (left at p : ℕ) → node left stmtSort at ≡ Behind p → FormedStmt (stmtAt s left at)
   unfolding stmtAt
   stmt-tree zero at p e = tt
   stmt-tree (suc left) at p e =
       let k = payloadAt s at in
-      shape-of left (stmt-tree left) (shapeOf k) k _ (next s (next s at)) p (stmtFields k) (op-test k) (fields-fit k) (inside s t line left stmtSort at p e .fields)
+      shape-of left (stmt-tree left) (shapeOf k) k _ (next s (next s at)) p (op-test k) (rw (← fields-rule k) at (inside s t line left stmtSort at p e .fields))
 
 -- a line, and where it ends
 module _ (s t : List ℕ) where
@@ -531,12 +484,4 @@ module _ (s t : List ℕ) where
 
   -- an accepted sheet is in form
   pub accepted-formed : (work : ℕ) → checked s t work ≡ Accepted → Formed (programAt s)
-  unfolding checked
-  accepted-formed work e = go (isTooLong s t) (hasSurrogate t) (ltb work (length s)) (Form.sheetForm s t) refl e
-    where
-      go : (a b c : Bool) (w : Walk) → Form.sheetForm s t ≡ w → pick a TooLong (pick b Surrogate (pick c WorkTooShort (formChecked w))) ≡ Accepted → Formed (programAt s)
-      go true b c w h f = let y : _≡_ {A = ℕ} 0 1 = cc in absurd (omega arith)
-      go false true c w h f = let y : _≡_ {A = ℕ} 0 1 = cc in absurd (omega arith)
-      go false false true w h f = let y : _≡_ {A = ℕ} 0 1 = cc in absurd (omega arith)
-      go false false false (Behind p) h f = sheet-tree p h
-      go false false false (Stops o) h f = let y : _≡_ {A = ℕ} 0 1 = cc in absurd (omega arith)
+  accepted-formed work e = let w = walked s t work e in sheet-tree (w .end) (w .walks)

@@ -34,9 +34,6 @@ pub record Sym (S : Type 0) : Type 0 where
 abbrev pub after : {S A : Type 0} → Out S → (Ty → S → A) → A
 after o f = f (o .ty) (o .state)
 
-abbrev pub withSym : {S A : Type 0} → Sym S → (ℕ → Ty → S → A) → A
-withSym y f = f (y .number) (y .ty) (y .state)
-
 -- "a string, prompt or quoted datum stands without its first unit, then without a last quote if one remains; its length is its
 -- units." Starts are in the whole text, where the line begins at `base`.
 abbrev pub quotedStart : ℕ → Range → ℕ
@@ -77,9 +74,11 @@ module _ {S : Type 0} (R : Recorder S) (t : List ℕ) (base : ℕ) where
   abbrev pub symOf : Ty → Named S → Sym S
   symOf ty n = record { state = n .state; number = n .number; ty = ty }
 
+  abbrev pub blankNote : ℕ → Range → S → S
+  blankNote lost r s = pick (ltb 0 lost) (addWarning 10 r s) s
+
   abbrev pub namedSym : Name → Range → S → Sym S
-  namedSym n r s =
-      symOf (n .ty) (R .symbol (pick (ltb 0 (n .lost)) (addWarning 10 r s) s) (n .start) (n .len) (n .sigil))
+  namedSym n r s = symOf (n .ty) (R .symbol (blankNote (n .lost) r s) (n .start) (n .len) (n .sigil))
 
   unfoldable pub compileSym : Range → S → Sym S
   compileSym r s = namedSym (readName t base r) r s

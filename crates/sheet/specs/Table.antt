@@ -11,6 +11,8 @@ use Rattle.sheet.specs.declared.form.Sort.{Sort}
 use Rattle.sheet.specs.declared.form.Sort.the-variants.{Expr, Place, InputPlace, Stmt}
 use Rattle.sheet.specs.declared.form.Times.the-variants.{Once, Optional, List as Listed, NonEmpty, OptionalList}
 use Rattle.sheet.specs.declared.form.Field.{Field}
+use Rattle.sheet.specs.declared.form.Shape.{Shape}
+use Rattle.sheet.specs.declared.form.Shape.the-variants.{Rem, NoOp, Op0, Run, Op1, Op2, Op3, Draw, Set, Data, Def, Dim, Field as Fields, For, GoSub, GoTo, If, Input, Let, Load, Locate, Next, On, Open, Print, Read, Restore, Swap, System, While, Write}
 
 -- words of one kind: "03 label, 0 to 65,535"; "05 yes or no, 1 or 0"; "06 file mode: 0 Error, 1 Random, then from 2 FileMode's
 -- other cases"; "09 a place in SysFuncKind, BinaryOpKind or UnaryOpKind"
@@ -166,6 +168,40 @@ exprFields k = getD exprTable k []
 
 unfoldable pub stmtFields : ℕ → List Field
 stmtFields k = getD stmtTable k []
+
+-- the same by shape: the cases of one shape have the same fields
+abbrev pub shapeFields : Shape → List Field
+shapeFields Rem = one range ∷ []
+shapeFields NoOp = []
+shapeFields Op0 = []
+shapeFields Run = one range ∷ []
+shapeFields Op1 = one expr ∷ []
+shapeFields Op2 = one expr ∷ one expr ∷ []
+shapeFields Op3 = one expr ∷ one expr ∷ one expr ∷ []
+shapeFields Draw = nonEmpty expr ∷ []
+shapeFields Set = one place ∷ one expr ∷ []
+shapeFields Data = nonEmpty datum ∷ []
+shapeFields Def = one optionalName ∷ one optionalName ∷ one expr ∷ []
+shapeFields Dim = nonEmpty expr ∷ []
+shapeFields Fields = one expr ∷ nonEmpty₂ expr place ∷ []
+shapeFields For = one optionalName ∷ one expr ∷ one expr ∷ optional expr ∷ []
+shapeFields GoSub = optional₂ range label ∷ []
+shapeFields GoTo = one flag ∷ optional₂ range label ∷ []
+shapeFields If = one expr ∷ list stmt ∷ optionalList stmt ∷ []
+shapeFields Input = one source ∷ nonEmpty inputPlace ∷ []
+shapeFields Let = one place ∷ one expr ∷ []
+shapeFields Load = nonEmpty expr ∷ []
+shapeFields Locate = optional expr ∷ optional expr ∷ []
+shapeFields Next = list optionalName ∷ []
+shapeFields On = one expr ∷ nonEmpty₂ range optionalLabel ∷ one flag ∷ []
+shapeFields Open = one expr ∷ one mode ∷ one expr ∷ optional₂ range expr ∷ []
+shapeFields Print = list element ∷ []
+shapeFields Read = nonEmpty place ∷ []
+shapeFields Restore = optional₂ range label ∷ []
+shapeFields Swap = one place ∷ one place ∷ []
+shapeFields System = []
+shapeFields While = one expr ∷ []
+shapeFields Write = optional expr ∷ nonEmpty₂ expr flag ∷ []
 
 -- "20 statement: payload the place of its case in StmtKind, from 0. 21 expression: the place in ExprKind"
 abbrev pub nodeKind : Sort → ℕ

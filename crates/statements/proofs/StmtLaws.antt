@@ -12,17 +12,18 @@ use Rattle.recorder.specs.Word.{payloadAt, rangeAt, next, choose}
 use Rattle.recorder.specs.Mem.{Mem, mem, memR, onRec, setA}
 use Rattle.sheet.specs.declared.form.Sort.the-variants.{Expr as exprSort, Stmt as stmtSort}
 use Rattle.sheet.specs.declared.form.Shape.the-variants.{If}
+use Rattle.sheet.specs.Table.{shapeFields}
 use Rattle.sheet.specs.Form.{isAbsent}
 use Rattle.sheet.specs.Skip.{skipNode, skipRepeat, skipList, skipFields, skipField, skipTimes, skipPair, skipItem}
 use Rattle.sheet.specs.Tree.{stmtNode, stmtAt, stmtsAt, shapeOf}
+use Rattle.sheet.proofs.Shapes.{fields-rule}
 use Rattle.rules.specs.declared.types.«Type».the-variants.{Real}
 use Rattle.rules.specs.Stmt.{compileStmt, compileStmts, elseJump, endHere}
 use Rattle.nodes.specs.Done.{CompiledTyped, CountAt}
-use Rattle.expressions.specs.Body.{Body, shapeFields}
+use Rattle.expressions.specs.Body.{Body}
 use Rattle.expressions.proofs.ExprLaws.{Head}
 use Rattle.statements.specs.Shapes.{shapeBy}
 use Rattle.statements.specs.Stmt.{IfHead, IfBody, CompiledStmt, CompiledStmts}
-use Rattle.statements.proofs.Shapes.{fields-rule}
 
 -- a number that is none of those from a to b is not between them
 step : (a n : ℕ) → a ≤ n → (n ≡ a → ⊥) → a + 1 ≤ n

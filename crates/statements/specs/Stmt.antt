@@ -7,12 +7,12 @@ use Rattle.recorder.specs.Word.{payloadAt, next}
 use Rattle.recorder.specs.Mem.{Mem, memR}
 use Rattle.sheet.specs.declared.form.Sort.the-variants.{Expr as exprSort, Stmt as stmtSort}
 use Rattle.sheet.specs.declared.form.Shape.the-variants.{If}
+use Rattle.sheet.specs.Table.{shapeFields}
 use Rattle.sheet.specs.Skip.{skipNode, skipList, skipFields}
 use Rattle.sheet.specs.Tree.{exprAt, stmtAt, stmtsAt, ifAt}
 use Rattle.rules.specs.declared.types.«Type».the-variants.{Real}
 use Rattle.rules.specs.Expr.{compileTyped}
 use Rattle.rules.specs.Stmt.{compileStmt, compileStmts, ifJump}
-use Rattle.expressions.specs.Body.{shapeFields}
 
 -- an IF's condition and its jump, which stands at `jump`
 pub record IfHead (s t : List ℕ) (base left : ℕ) (r : Range) (at : ℕ) (m m′ : Mem) (q jump : ℕ) : Type 0 where

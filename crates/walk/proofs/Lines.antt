@@ -9,7 +9,7 @@ use borrow.Author.Tests.{lt-ltb, le-ltb, leb-true, leb-false, le-leb, lt-leb}
 use lib.Dec.{leb}
 use lib.ListN.{length, getD, drop}
 use lib.Seq.{drop-cons}
-use Rattle.recorder.specs.Word.{payloadAt}
+use Rattle.recorder.specs.Word.{either, payloadAt}
 use Rattle.sheet.specs.declared.form.Item.the-variants.{Nothing, Node}
 use Rattle.sheet.specs.declared.form.Sort.{Sort}
 use Rattle.sheet.specs.declared.form.Sort.the-variants.{Stmt}
@@ -125,31 +125,38 @@ module _ (s t : List ℕ) where
   sheet-go p n w r a b e d = then-go w _ r p _ a b (d ∙ ap (λ (m : ℕ). linesForm s t m 0 p) e)
 
 -- the units of the text, one by one
-abbrev half : ℕ → Bool
-half u = between 55296 u 57343
+either-last : (a b c : Bool) → either (either a b) c ≡ either a (either b c)
+either-last true b c = refl
+either-last false b c = refl
 
-pub units-step : (t : List ℕ) (i : ℕ) (f z : Bool) → i < length t → f ≡ between 55296 (getD t i 0) 57343 → f ≡ false
-    → hasSurrogate (drop i t) ≡ z → hasSurrogate (drop (i + 1) t) ≡ z
-unfolding hasSurrogate
-units-step t i f z h a b k =
-    let e : hasSurrogate (getD t i 0 ∷ drop (suc i) t) ≡ z = rw (drop-cons t i 0 h) at k in
-    rw add-one (either-no (half (getD t i 0)) _ _ (told f (half (getD t i 0)) false a b) refl ∙ e)
+either-none : (a : Bool) → either a false ≡ a
+either-none true = refl
+either-none false = refl
 
-pub units-found : (t : List ℕ) (i : ℕ) (f z : Bool) → i < length t → f ≡ between 55296 (getD t i 0) 57343 → f ≡ true → hasSurrogate (drop i t) ≡ z → true ≡ z
+pub unit-half : (f g : Bool) (u : ℕ) → g ≡ between 55296 u 57343 → g ≡ true → true ≡ either f (between 55296 u 57343)
+unit-half true g u a b = refl
+unit-half false g u a b = sym b ∙ a
+
+pub unit-whole : (f g : Bool) (u : ℕ) → g ≡ between 55296 u 57343 → g ≡ false → f ≡ either f (between 55296 u 57343)
+unit-whole true g u a b = refl
+unit-whole false g u a b = sym b ∙ a
+
+pub units-step : (t : List ℕ) (i : ℕ) (f g z : Bool) → i < length t → either f (hasSurrogate (drop i t)) ≡ z → g ≡ either f (between 55296 (getD t i 0) 57343)
+    → either g (hasSurrogate (drop (i + 1) t)) ≡ z
 unfolding hasSurrogate
-units-found t i f z h a b k =
-    let e : hasSurrogate (getD t i 0 ∷ drop (suc i) t) ≡ z = rw (drop-cons t i 0 h) at k in
-    either-yes (half (getD t i 0)) _ (told f (half (getD t i 0)) true a b) ∙ e
+units-step t i f g z h k a =
+    let e : either f (hasSurrogate (getD t i 0 ∷ drop (suc i) t)) ≡ z = rw (drop-cons t i 0 h) at k in
+    rw (add-one, a) (either-last f (between 55296 (getD t i 0) 57343) (hasSurrogate (drop (suc i) t)) ∙ e)
 
 drop-all : (t : List ℕ) (i : ℕ) → length t ≤ i → drop i t ≡ []
 drop-all [] zero h = refl
 drop-all [] (suc i) h = refl
-drop-all (x ∷ t) zero h = absurd (omega arith)
-drop-all (x ∷ t) (suc i) h = drop-all t i (omega arith)
+drop-all (u ∷ us) zero h = absurd (omega arith)
+drop-all (u ∷ us) (suc i) h = drop-all us i (omega arith)
 
-pub units-none : (t : List ℕ) (i : ℕ) (z : Bool) → length t ≤ i → hasSurrogate (drop i t) ≡ z → false ≡ z
+pub units-end : (t : List ℕ) (i : ℕ) (f z : Bool) → length t ≤ i → either f (hasSurrogate (drop i t)) ≡ z → f ≡ z
 unfolding hasSurrogate
-units-none t i z h k = rw (drop-all t i h) at k
+units-end t i f z h k = let e : either f false ≡ z = rw (drop-all t i h) at k in sym (either-none f) ∙ e
 
 module _ (s t : List ℕ) (work : ℕ) where
   pub long-sheet : 65536 < length s → TooLong ≡ checked s t work

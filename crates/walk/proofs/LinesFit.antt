@@ -4,7 +4,7 @@ use mathlib.Core.Bool.{Bool, true, false}
 use mathlib.Core.List.{List}
 use Prim.Native.Nat.{ℕ, zero, suc, _+_, _*_, _≤_, _<_}
 use native.Mathlib.Omega.{arith}
-use borrow.Author.Tests.{ltb-false, eqb-true}
+use borrow.Author.Tests.{eqb-true}
 use lib.Dec.{ltb, leb, eqb}
 use lib.ListN.{length}
 use Rattle.recorder.specs.Word.{pick, choose, both, kindAt, payloadAt, next, rangeAt}
@@ -15,14 +15,14 @@ use Rattle.sheet.specs.declared.form.Walk.{Walk}
 use Rattle.sheet.specs.declared.form.Walk.the-variants.{Behind, Stops}
 use Rattle.sheet.specs.declared.form.Line.{Line}
 use Rattle.sheet.specs.declared.form.Sort.the-variants.{Stmt}
-use Rattle.sheet.specs.declared.form.Checked.the-variants.{Accepted, TooLong, Surrogate, WorkTooShort}
-use Rattle.sheet.specs.Check.{formChecked, isTooLong, hasSurrogate, checked}
+use Rattle.sheet.specs.declared.form.Checked.the-variants.{Accepted}
+use Rattle.sheet.specs.Check.{checked}
 use Rattle.sheet.specs.Form.{then, isAbsent, takeWord, absentForm, inLine, rangeForm, labelForm, listForm, nodeForm, lineOf, lineHead, lineForm, endForm, linesForm, sheetForm}
 use Rattle.walk.proofs.Steps.{Ends, repeat-ends, node-ends}
 use Rattle.sheet.proofs.Walks.{pick-behind}
 use Rattle.walk.proofs.Cycle.{kind-inside, next-inside}
 use Rattle.walk.proofs.Lines.{then-first}
-use Rattle.walk.proofs.Within.{sheet-within}
+use Rattle.walk.proofs.Within.{Walked, walked, sheet-within}
 
 -- a walk that comes to its end has read at least n words
 record Reads (n p : ℕ) (w : Walk) : Type 0 where
@@ -100,17 +100,6 @@ module _ (s t : List ℕ) where
       let a = then-first (sheetForm s t) (takeWord s 15 16777216 0) (λ p. linesForm s t (payloadAt s 0) 0 p) q refl e in
       omega (arith, lines-read (payloadAt s 0) 0 (a .0) q (a .2), sheet-within s t q e)
 
-  form-reads : (w : Walk) → sheetForm s t ≡ w → formChecked w ≡ Accepted → 3 * payloadAt s 0 ≤ length s
-  form-reads (Behind q) e f = sheet-reads q e
-  form-reads (Stops o) e f = let z : _≡_ {A = ℕ} 0 1 = cc in absurd (omega arith)
-
-  -- THEOREM: three words for each line of an accepted sheet are no more than work has
-  pub lines-fit : (work : ℕ) → checked s t work ≡ Accepted → 3 * payloadAt s 0 ≤ work
-  unfolding checked
-  lines-fit work e = go (isTooLong s t) (hasSurrogate t) (ltb work (length s)) refl e
-    where
-      go : (a b d : Bool) → ltb work (length s) ≡ d → pick a TooLong (pick b Surrogate (pick d WorkTooShort (formChecked (sheetForm s t)))) ≡ Accepted → 3 * payloadAt s 0 ≤ work
-      go true b d f h = let z : _≡_ {A = ℕ} 0 1 = cc in absurd (omega arith)
-      go false true d f h = let z : _≡_ {A = ℕ} 0 1 = cc in absurd (omega arith)
-      go false false true f h = let z : _≡_ {A = ℕ} 0 1 = cc in absurd (omega arith)
-      go false false false f h = omega (arith, form-reads (sheetForm s t) refl h, ltb-false work (length s) f)
+-- THEOREM: three words for each line of an accepted sheet are no more than work has
+pub lines-fit : (s t : List ℕ) (work : ℕ) → checked s t work ≡ Accepted → 3 * payloadAt s 0 ≤ work
+lines-fit s t work e = let w = walked s t work e in omega (arith, sheet-reads s t (w .end) (w .walks), w .enough)

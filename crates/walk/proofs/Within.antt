@@ -15,7 +15,7 @@ use Rattle.sheet.specs.declared.form.Offence.the-variants.{BadWord, TooDeep, Ba
 use Rattle.sheet.specs.declared.form.Walk.{Walk}
 use Rattle.sheet.specs.declared.form.Walk.the-variants.{Behind, Stops}
 use Rattle.sheet.specs.declared.form.Line.{Line}
-use Rattle.sheet.specs.declared.form.Checked.the-variants.{TooLong, Surrogate, WorkTooShort}
+use Rattle.sheet.specs.declared.form.Checked.the-variants.{Accepted, TooLong, Surrogate, WorkTooShort}
 use Rattle.sheet.specs.Table.{isFseek}
 use Rattle.sheet.specs.Check.{offencePlace, refusalPlace, formChecked, isTooLong, hasSurrogate, checked}
 use Rattle.sheet.specs.Form.{then, takeWord, headForm, fseekForm, bodyForm, nodeForm, lineOf, lineHead, lineForm, endForm, linesForm, sheetForm}
@@ -119,3 +119,20 @@ module _ (s t : List ℕ) where
       go false true d = omega arith
       go false false true = omega arith
       go false false false = form-place (sheetForm s t) sheet-ends
+
+-- of an accepted sheet: its walk comes to an end, and work is long enough
+pub record Walked (s t : List ℕ) (work : ℕ) : Type 0 where
+  pub end : ℕ
+  pub walks : sheetForm s t ≡ Behind end
+  pub enough : length s ≤ work
+
+pub walked : (s t : List ℕ) (work : ℕ) → checked s t work ≡ Accepted → Walked s t work
+unfolding checked
+walked s t work e = go (isTooLong s t) (hasSurrogate t) (ltb work (length s)) (sheetForm s t) refl refl e
+  where
+    go : (a b d : Bool) (w : Walk) → ltb work (length s) ≡ d → sheetForm s t ≡ w → pick a TooLong (pick b Surrogate (pick d WorkTooShort (formChecked w))) ≡ Accepted → Walked s t work
+    go true b d w f h g = let z : _≡_ {A = ℕ} 0 1 = cc in absurd (omega arith)
+    go false true d w f h g = let z : _≡_ {A = ℕ} 0 1 = cc in absurd (omega arith)
+    go false false true w f h g = let z : _≡_ {A = ℕ} 0 1 = cc in absurd (omega arith)
+    go false false false (Behind q) f h g = record { end = q; walks = h; enough = ltb-false work (length s) f }
+    go false false false (Stops o) f h g = let z : _≡_ {A = ℕ} 0 1 = cc in absurd (omega arith)

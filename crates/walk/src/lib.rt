@@ -2,24 +2,35 @@
 use sheet::form::Checked;
 use sheet::form::Walk;
 ghost use mathlib.Core.Path.{_≡_};
+ghost use Rattle.recorder.specs.Word.{either};
+ghost use Rattle.sheet.specs.Form.{between};
 ghost use Rattle.sheet.specs.Check.{hasSurrogate, checked};
 
 mod quick;
 pub mod stmt;
 
-// Whether a unit is half of a pair.
+// Whether one was found, or this unit is half of a pair.
+fn or_surrogate(found: bool, u: u16) -> bool
+    ensures { λ r. ⌜ r ≡ either found (between 55296 u 57343) ⌝ }
+{
+    if sheet::expr::within(55296, u, 57343) {
+        true
+    } else {
+        found
+    }
+}
+
+// Whether a unit is half of a pair. The loop does not stop at the first, so that several units are tested at once.
 fn has_surrogate(text: &[u16]) -> bool
     ensures { λ r. ⌜ r ≡ hasSurrogate (now (text .entry)) ⌝ }
 {
+    let mut found = false;
     let mut i: usize = 0;
     while i < text.len() {
-        if sheet::expr::within(55296, text[i], 57343) {
-            return true;
-        } else {
-            i += 1;
-        }
+        found = or_surrogate(found, text[i]);
+        i += 1;
     }
-    false
+    found
 }
 
 // The refusals 1 to 8 of a whole input; work is the length of the lent work.

@@ -1,6 +1,7 @@
 // The form walked for acceptance alone: each function gives the place behind a part, or 0 where the walk stops. stmt.rt's walk
 // tells the first offence, so both are needed: returning one number, where the other returns a `Walk` through memory, halves
-// the time of the check. A sheet that is refused is walked by both.
+// the time of the check. A sheet that is refused is walked by both. A line is passed as its two numbers, and a slice to a
+// function of some length as `&*`: else each call writes it in two parts and reads it as one, for which the processor waits.
 use sheet::expr::take_word;
 use sheet::form::Field;
 use sheet::form::Item;
@@ -9,7 +10,7 @@ use sheet::form::Sort;
 use sheet::form::Times;
 use sheet::form::Walk;
 ghost use Prim.Native.Nat.{_-_};
-ghost use Rattle.sheet.specs.Reach.{Reaches};
+ghost use Rattle.sheet.specs.Reach.{Reaches, lineFrom};
 ghost use Rattle.sheet.specs.Table.{ownRange};
 ghost use Rattle.sheet.specs.Form.{itemForm, pairForm, listForm, fieldForm, fieldsForm, bodyForm, nodeForm, lineForm, linesForm, sheetForm};
 ghost use Rattle.sheet.specs.Parts.{fieldsFrom};
@@ -25,8 +26,15 @@ fn ends(w: Walk) -> usize
 }
 
 // INPUT's source: the keyboard, the keyboard and a prompt, or a file.
-fn source_ends(sheet: &[u32], text: &[u16], line: Line, left: usize, at: usize) -> usize
-    ensures { λ r. ⌜ Reaches r (itemForm (now (sheet .entry)) (now (text .entry)) line (nodeForm (now (sheet .entry)) (now (text .entry)) line left) Item.Source at) ⌝ }
+fn source_ends(
+    sheet: &[u32],
+    text: &[u16],
+    base: usize,
+    len: usize,
+    left: usize,
+    at: usize,
+) -> usize
+    ensures { λ r. ⌜ Reaches r (itemForm (now (sheet .entry)) (now (text .entry)) (lineFrom base len) (nodeForm (now (sheet .entry)) (now (text .entry)) (lineFrom base len) left) Item.Source at) ⌝ }
 {
     let p = ends(take_word(sheet, 7, 3, at));
     if p == 0 {
@@ -37,41 +45,61 @@ fn source_ends(sheet: &[u32], text: &[u16], line: Line, left: usize, at: usize) 
         return p;
     }
     if n == 1 {
-        return ends(sheet::expr::text_form(sheet, line, p));
+        return ends(sheet::expr::text_form(&*sheet, Line { base, len }, p));
     }
-    node_ends(sheet, text, line, left, Sort::Expr, p)
+    node_ends(&*sheet, &*text, base, len, left, Sort::Expr, p)
 }
 
 // PRINT's element: an expression, or the range of a comma or a semicolon.
-fn element_ends(sheet: &[u32], text: &[u16], line: Line, left: usize, at: usize) -> usize
-    ensures { λ r. ⌜ Reaches r (itemForm (now (sheet .entry)) (now (text .entry)) line (nodeForm (now (sheet .entry)) (now (text .entry)) line left) Item.Element at) ⌝ }
+fn element_ends(
+    sheet: &[u32],
+    text: &[u16],
+    base: usize,
+    len: usize,
+    left: usize,
+    at: usize,
+) -> usize
+    ensures { λ r. ⌜ Reaches r (itemForm (now (sheet .entry)) (now (text .entry)) (lineFrom base len) (nodeForm (now (sheet .entry)) (now (text .entry)) (lineFrom base len) left) Item.Element at) ⌝ }
 {
     let p = ends(take_word(sheet, 8, 3, at));
     if p == 0 {
         return 0;
     }
     if recorder::word::payload_at(sheet, at) == 0 {
-        return node_ends(sheet, text, line, left, Sort::Expr, p);
+        return node_ends(&*sheet, &*text, base, len, left, Sort::Expr, p);
     }
-    ends(sheet::expr::range_form(sheet, line, p))
+    ends(sheet::expr::range_form(sheet, Line { base, len }, p))
 }
 
-fn item_ends(sheet: &[u32], text: &[u16], line: Line, left: usize, item: Item, at: usize) -> usize
-    ensures { λ r. ⌜ Reaches r (itemForm (now (sheet .entry)) (now (text .entry)) line (nodeForm (now (sheet .entry)) (now (text .entry)) line left) item at) ⌝ }
+fn item_ends(
+    sheet: &[u32],
+    text: &[u16],
+    base: usize,
+    len: usize,
+    left: usize,
+    item: Item,
+    at: usize,
+) -> usize
+    ensures { λ r. ⌜ Reaches r (itemForm (now (sheet .entry)) (now (text .entry)) (lineFrom base len) (nodeForm (now (sheet .entry)) (now (text .entry)) (lineFrom base len) left) item at) ⌝ }
 {
     match item {
         Item::Nothing => at,
         Item::Word(k, n) => ends(take_word(sheet, k, n, at)),
-        Item::Range => ends(sheet::expr::range_form(sheet, line, at)),
-        Item::Name => ends(sheet::expr::name_form(sheet, text, line, at)),
-        Item::OptionalName => ends(sheet::expr::optional_name_form(sheet, text, line, at)),
-        Item::Text => ends(sheet::expr::text_form(sheet, line, at)),
-        Item::Node(c) => node_ends(sheet, text, line, left, c, at),
+        Item::Range => ends(sheet::expr::range_form(sheet, Line { base, len }, at)),
+        Item::Name => ends(sheet::expr::name_form(&*sheet, &*text, Line { base, len }, at)),
+        Item::OptionalName => ends(sheet::expr::optional_name_form(
+            &*sheet,
+            &*text,
+            Line { base, len },
+            at,
+        )),
+        Item::Text => ends(sheet::expr::text_form(&*sheet, Line { base, len }, at)),
+        Item::Node(c) => node_ends(&*sheet, &*text, base, len, left, c, at),
         Item::Number => ends(sheet::expr::number_form(sheet, at)),
         Item::OptionalLabel => ends(sheet::expr::optional_label_form(sheet, at)),
-        Item::Source => source_ends(sheet, text, line, left, at),
-        Item::Element => element_ends(sheet, text, line, left, at),
-        Item::Datum => ends(sheet::expr::datum_form(sheet, line, at)),
+        Item::Source => source_ends(&*sheet, &*text, base, len, left, at),
+        Item::Element => element_ends(&*sheet, &*text, base, len, left, at),
+        Item::Datum => ends(sheet::expr::datum_form(sheet, Line { base, len }, at)),
     }
 }
 
@@ -79,21 +107,22 @@ fn item_ends(sheet: &[u32], text: &[u16], line: Line, left: usize, item: Item, a
 fn pair_ends(
     sheet: &[u32],
     text: &[u16],
-    line: Line,
+    base: usize,
+    len: usize,
     left: usize,
     a: Item,
     b: Item,
     at: usize,
 ) -> usize
-    ensures { λ r. ⌜ Reaches r (pairForm (now (sheet .entry)) (now (text .entry)) line (nodeForm (now (sheet .entry)) (now (text .entry)) line left) a b at) ⌝ }
+    ensures { λ r. ⌜ Reaches r (pairForm (now (sheet .entry)) (now (text .entry)) (lineFrom base len) (nodeForm (now (sheet .entry)) (now (text .entry)) (lineFrom base len) left) a b at) ⌝ }
 {
-    let p = item_ends(sheet, text, line, left, a, at);
+    let p = item_ends(&*sheet, &*text, base, len, left, a, at);
     if p == 0 {
         return 0;
     }
     match b {
         Item::Nothing => p,
-        _ => item_ends(sheet, text, line, left, b, p),
+        _ => item_ends(&*sheet, &*text, base, len, left, b, p),
     }
 }
 
@@ -101,13 +130,14 @@ fn pair_ends(
 fn list_ends(
     sheet: &[u32],
     text: &[u16],
-    line: Line,
+    base: usize,
+    len: usize,
     left: usize,
     a: Item,
     b: Item,
     at: usize,
 ) -> usize
-    ensures { λ r. ⌜ Reaches r (listForm (now (sheet .entry)) (now (text .entry)) line (pairForm (now (sheet .entry)) (now (text .entry)) line (nodeForm (now (sheet .entry)) (now (text .entry)) line left) a b) at) ⌝ }
+    ensures { λ r. ⌜ Reaches r (listForm (now (sheet .entry)) (now (text .entry)) (lineFrom base len) (pairForm (now (sheet .entry)) (now (text .entry)) (lineFrom base len) (nodeForm (now (sheet .entry)) (now (text .entry)) (lineFrom base len) left) a b) at) ⌝ }
 {
     let q = ends(take_word(sheet, 4, 16777216, at));
     if q == 0 {
@@ -116,7 +146,7 @@ fn list_ends(
     let mut p = q;
     let mut n = recorder::word::payload_at(sheet, at);
     while 0 < n {
-        let e = pair_ends(sheet, text, line, left, a, b, p);
+        let e = pair_ends(&*sheet, &*text, base, len, left, a, b, p);
         if e == 0 {
             return 0;
         }
@@ -127,34 +157,42 @@ fn list_ends(
 }
 
 // A field: its pair, so many times.
-fn field_ends(sheet: &[u32], text: &[u16], line: Line, left: usize, f: Field, at: usize) -> usize
-    ensures { λ r. ⌜ Reaches r (fieldForm (now (sheet .entry)) (now (text .entry)) line (nodeForm (now (sheet .entry)) (now (text .entry)) line left) f at) ⌝ }
+fn field_ends(
+    sheet: &[u32],
+    text: &[u16],
+    base: usize,
+    len: usize,
+    left: usize,
+    f: Field,
+    at: usize,
+) -> usize
+    ensures { λ r. ⌜ Reaches r (fieldForm (now (sheet .entry)) (now (text .entry)) (lineFrom base len) (nodeForm (now (sheet .entry)) (now (text .entry)) (lineFrom base len) left) f at) ⌝ }
 {
     let a = f.first;
     let b = f.second;
     let times = f.times;
     match times {
-        Times::Once => pair_ends(sheet, text, line, left, a, b, at),
+        Times::Once => pair_ends(&*sheet, &*text, base, len, left, a, b, at),
         Times::Optional => {
             if sheet::expr::is_absent(sheet, at) {
                 ends(take_word(sheet, 2, 1, at))
             } else {
-                pair_ends(sheet, text, line, left, a, b, at)
+                pair_ends(&*sheet, &*text, base, len, left, a, b, at)
             }
         }
-        Times::List => list_ends(sheet, text, line, left, a, b, at),
+        Times::List => list_ends(&*sheet, &*text, base, len, left, a, b, at),
         Times::NonEmpty => {
             let p = ends(sheet::expr::non_empty_form(sheet, at));
             if p == 0 {
                 return 0;
             }
-            list_ends(sheet, text, line, left, a, b, at)
+            list_ends(&*sheet, &*text, base, len, left, a, b, at)
         }
         Times::OptionalList => {
             if sheet::expr::is_absent(sheet, at) {
                 ends(take_word(sheet, 2, 1, at))
             } else {
-                list_ends(sheet, text, line, left, a, b, at)
+                list_ends(&*sheet, &*text, base, len, left, a, b, at)
             }
         }
     }
@@ -164,19 +202,20 @@ fn field_ends(sheet: &[u32], text: &[u16], line: Line, left: usize, f: Field, at
 fn fields_ends(
     sheet: &[u32],
     text: &[u16],
-    line: Line,
+    base: usize,
+    len: usize,
     left: usize,
     i: usize,
     e: usize,
     at: usize,
 ) -> usize
-    ensures { λ r. ⌜ Reaches r (fieldsForm (now (sheet .entry)) (now (text .entry)) line (nodeForm (now (sheet .entry)) (now (text .entry)) line left) (fieldsFrom i (e - i)) at) ⌝ }
+    ensures { λ r. ⌜ Reaches r (fieldsForm (now (sheet .entry)) (now (text .entry)) (lineFrom base len) (nodeForm (now (sheet .entry)) (now (text .entry)) (lineFrom base len) left) (fieldsFrom i (e - i)) at) ⌝ }
 {
     let mut p = at;
     let mut j = i;
     while j < e {
         let f = sheet::form::field_at(j);
-        let q = field_ends(sheet, text, line, left, f, p);
+        let q = field_ends(&*sheet, &*text, base, len, left, f, p);
         if q == 0 {
             return 0;
         }
@@ -187,54 +226,71 @@ fn fields_ends(
 }
 
 // A node's own range. It holds no node, so it is read with no depth left, and not through item_ends.
-fn own_ends(sheet: &[u32], text: &[u16], line: Line, c: Sort, k: u32, at: usize) -> usize
-    ensures { λ r. ⌜ Reaches r (itemForm (now (sheet .entry)) (now (text .entry)) line (nodeForm (now (sheet .entry)) (now (text .entry)) line 0) (ownRange c k) at) ⌝ }
+fn own_ends(
+    sheet: &[u32],
+    text: &[u16],
+    base: usize,
+    len: usize,
+    c: Sort,
+    k: u32,
+    at: usize,
+) -> usize
+    ensures { λ r. ⌜ Reaches r (itemForm (now (sheet .entry)) (now (text .entry)) (lineFrom base len) (nodeForm (now (sheet .entry)) (now (text .entry)) (lineFrom base len) 0) (ownRange c k) at) ⌝ }
 {
     match c {
-        Sort::Expr => expr_own_ends(sheet, text, line, k, at),
-        Sort::Place => expr_own_ends(sheet, text, line, k, at),
-        Sort::InputPlace => expr_own_ends(sheet, text, line, k, at),
-        Sort::Stmt => ends(sheet::expr::range_form(sheet, line, at)),
+        Sort::Expr => expr_own_ends(&*sheet, &*text, base, len, k, at),
+        Sort::Place => expr_own_ends(&*sheet, &*text, base, len, k, at),
+        Sort::InputPlace => expr_own_ends(&*sheet, &*text, base, len, k, at),
+        Sort::Stmt => ends(sheet::expr::range_form(sheet, Line { base, len }, at)),
     }
 }
 
-fn expr_own_ends(sheet: &[u32], text: &[u16], line: Line, k: u32, at: usize) -> usize
-    ensures { λ r. ⌜ Reaches r (itemForm (now (sheet .entry)) (now (text .entry)) line (nodeForm (now (sheet .entry)) (now (text .entry)) line 0) (ownRange Sort.Expr k) at) ⌝ }
+fn expr_own_ends(sheet: &[u32], text: &[u16], base: usize, len: usize, k: u32, at: usize) -> usize
+    ensures { λ r. ⌜ Reaches r (itemForm (now (sheet .entry)) (now (text .entry)) (lineFrom base len) (nodeForm (now (sheet .entry)) (now (text .entry)) (lineFrom base len) 0) (ownRange Sort.Expr k) at) ⌝ }
 {
     if k == 0 {
-        return ends(sheet::expr::name_form(sheet, text, line, at));
+        return ends(sheet::expr::name_form(&*sheet, &*text, Line { base, len }, at));
     }
     if k == 1 {
-        return ends(sheet::expr::text_form(sheet, line, at));
+        return ends(sheet::expr::text_form(&*sheet, Line { base, len }, at));
     }
-    ends(sheet::expr::range_form(sheet, line, at))
+    ends(sheet::expr::range_form(sheet, Line { base, len }, at))
 }
 
 // What stands behind a node's head: its own range and its fields.
 fn body_ends(
     sheet: &[u32],
     text: &[u16],
-    line: Line,
+    base: usize,
+    len: usize,
     left: usize,
     c: Sort,
     k: u32,
     at: usize,
 ) -> usize
-    ensures { λ r. ⌜ Reaches r (bodyForm (now (sheet .entry)) (now (text .entry)) line (nodeForm (now (sheet .entry)) (now (text .entry)) line left) c k at) ⌝ }
+    ensures { λ r. ⌜ Reaches r (bodyForm (now (sheet .entry)) (now (text .entry)) (lineFrom base len) (nodeForm (now (sheet .entry)) (now (text .entry)) (lineFrom base len) left) c k at) ⌝ }
 {
-    let p = own_ends(sheet, text, line, c, k, at);
+    let p = own_ends(&*sheet, &*text, base, len, c, k, at);
     if p == 0 {
         return 0;
     }
     let m = sheet::form::case_of(c, k);
     let i = sheet::form::start_at(m);
     let e = sheet::form::start_after(m);
-    fields_ends(sheet, text, line, left, i, e, p)
+    fields_ends(&*sheet, &*text, base, len, left, i, e, p)
 }
 
 // A statement or an expression, with so many depths left, its own among them.
-fn node_ends(sheet: &[u32], text: &[u16], line: Line, left: usize, c: Sort, at: usize) -> usize
-    ensures { λ r. ⌜ Reaches r (nodeForm (now (sheet .entry)) (now (text .entry)) line left c at) ⌝ }
+fn node_ends(
+    sheet: &[u32],
+    text: &[u16],
+    base: usize,
+    len: usize,
+    left: usize,
+    c: Sort,
+    at: usize,
+) -> usize
+    ensures { λ r. ⌜ Reaches r (nodeForm (now (sheet .entry)) (now (text .entry)) (lineFrom base len) left c at) ⌝ }
 {
     let p = ends(sheet::expr::head_form(sheet, c, at));
     if p == 0 {
@@ -247,18 +303,19 @@ fn node_ends(sheet: &[u32], text: &[u16], line: Line, left: usize, c: Sort, at: 
     if left == 0 {
         0
     } else {
-        body_ends(sheet, text, line, left - 1, c, k, p)
+        body_ends(&*sheet, &*text, base, len, left - 1, c, k, p)
     }
 }
 
 // A line's statements: a count, and so many, with 64 depths.
-fn stmts_ends(sheet: &[u32], text: &[u16], line: Line, at: usize) -> usize
-    ensures { λ r. ⌜ Reaches r (listForm (now (sheet .entry)) (now (text .entry)) line (nodeForm (now (sheet .entry)) (now (text .entry)) line 64 Sort.Stmt) at) ⌝ }
+fn stmts_ends(sheet: &[u32], text: &[u16], base: usize, len: usize, at: usize) -> usize
+    ensures { λ r. ⌜ Reaches r (listForm (now (sheet .entry)) (now (text .entry)) (lineFrom base len) (nodeForm (now (sheet .entry)) (now (text .entry)) (lineFrom base len) 64 Sort.Stmt) at) ⌝ }
 {
     list_ends(
-        sheet,
-        text,
-        line,
+        &*sheet,
+        &*text,
+        base,
+        len,
         64,
         Item::Node(Sort::Stmt),
         Item::Nothing,
@@ -274,12 +331,11 @@ fn line_ends(sheet: &[u32], text: &[u16], base: usize, at: usize) -> usize
         return 0;
     }
     let len = recorder::word::payload_at(sheet, at) as usize;
-    let line = Line { base, len };
-    let q = ends(sheet::expr::label_form(sheet, line, p));
+    let q = ends(sheet::expr::label_form(sheet, Line { base, len }, p));
     if q == 0 {
         return 0;
     }
-    stmts_ends(sheet, text, line, q)
+    stmts_ends(&*sheet, &*text, base, len, q)
 }
 
 fn lines_ends(sheet: &[u32], text: &[u16], n: u32, at: usize) -> usize

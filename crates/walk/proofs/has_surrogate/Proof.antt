@@ -3,55 +3,52 @@ use native.Mathlib.Omega.{arith}
 use mathlib.Core.Path.{_≡_, refl}
 use Prim.Native.Nat.{_-_}
 use lib.ListN.{length, drop}
+use Rattle.recorder.specs.Word.{either}
 use Rattle.sheet.specs.Check.{hasSurrogate}
-use Rattle.walk.proofs.Lines.{units-step, units-found, units-none}
+use Rattle.walk.proofs.Lines.{units-step, units-end}
 use Rattle.walk.proofs.has_surrogate.Statement.{statement}
 use Rattle.walk.proofs.has_surrogate.Tie as tie
 use Rattle.walk.proofs.has_surrogate.Reads as reads
 use Rattle.walk.proofs.has_surrogate.Lts as lts
-use Rattle.sheet.proofs.expr.within.Reads as within-reads
+use Rattle.walk.proofs.or_surrogate.Reads as or-surrogate-reads
 
 abbrev Inv-loop : tie.InvT-loop
-Inv-loop text i₀ i = hasSurrogate (drop i text) ≡ hasSurrogate text
+Inv-loop text found₀ i₀ found i = either found (hasSurrogate (drop i text)) ≡ hasSurrogate text
 
 abbrev μ-loop : tie.MeasureT-loop
-μ-loop text i₀ i = length text - i
+μ-loop text found₀ i₀ found i = length text - i
 
--- src/lib.rt:15:5
+-- src/lib.rt:29:5
 loop-holds : tie.Need-loop-holds Inv-loop μ-loop
 loop-holds c = refl
 
--- src/lib.rt:16:39
-mul-within : tie.Need-mul-within Inv-loop μ-loop
-mul-within c = search needs
+-- src/lib.rt:30:37
+mul-or-surrogate : tie.Need-mul-or-surrogate Inv-loop μ-loop
+mul-or-surrogate c = search needs
 
--- src/lib.rt:16:39
-shared-slice-read-within : tie.Need-shared-slice-read-within Inv-loop μ-loop
-shared-slice-read-within c = search needs
+-- src/lib.rt:30:37
+shared-slice-read-or-surrogate : tie.Need-shared-slice-read-or-surrogate Inv-loop μ-loop
+shared-slice-read-or-surrogate c = search needs
 
--- src/lib.rt:16:12
-within-requires : tie.Need-within-requires Inv-loop μ-loop
-within-requires c κs = search needs
+-- src/lib.rt:30:9
+or-surrogate-requires : tie.Need-or-surrogate-requires Inv-loop μ-loop
+or-surrogate-requires c κs = search needs
 
--- src/lib.rt:17:13
-returns : tie.Need-returns Inv-loop μ-loop
-returns c = units-found (c .before .before .before .before .before .before .args .text .now) _ _ _ (c .before .before .before .loop-test .taken) (c .before .within .ensures) (c .if1 .taken) (c .before .before .before .before .loop .inv)
-
--- src/lib.rt:19:13
+-- src/lib.rt:31:9
 add-i : tie.Need-add-i Inv-loop μ-loop
 add-i c = search needs
 
--- src/lib.rt:15:5
+-- src/lib.rt:29:5
 loop-less : tie.Need-loop-less Inv-loop μ-loop
 loop-less c = omega arith
 
--- src/lib.rt:15:5
+-- src/lib.rt:29:5
 loop-again : tie.Need-loop-again Inv-loop μ-loop
-loop-again c = units-step (c .before .before .before .before .before .before .args .text .now) _ _ _ (c .before .before .before .loop-test .taken) (c .before .within .ensures) (c .if1 .left) (c .before .before .before .before .loop .inv)
+loop-again c = units-step (c .before .before .before .before .before .args .text .now) _ (c .before .before .before .loop .found) _ _ (c .before .before .loop-test .taken) (c .before .before .before .loop .inv) (c .or-surrogate .ensures)
 
--- src/lib.rt:11:1
-returns-2 : tie.Need-returns-2 Inv-loop μ-loop
-returns-2 c = units-none (c .before .before .before .args .text .now) _ _ (c .loop-test .left) (c .before .loop .inv)
+-- src/lib.rt:24:1
+returns : tie.Need-returns Inv-loop μ-loop
+returns c = units-end (c .before .before .before .args .text .now) _ _ _ (c .loop-test .left) (c .before .loop .inv)
 
 pub has-surrogate-spec : {M : Type 1} → statement M
 has-surrogate-spec =
@@ -60,11 +57,10 @@ has-surrogate-spec =
     Inv-loop
     μ-loop
     loop-holds
-    mul-within
-    shared-slice-read-within
-    within-requires
-    returns
+    mul-or-surrogate
+    shared-slice-read-or-surrogate
+    or-surrogate-requires
     add-i
     loop-less
     loop-again
-    returns-2)
+    returns)

@@ -6,6 +6,7 @@ use lib.ListN.{length}
 use Rattle.sheet.specs.Table.{ownRange}
 use Rattle.sheet.specs.Parts.{fieldsFrom}
 use Rattle.sheet.specs.Form.{itemForm, pairForm, repeatForm, listForm, timesForm, fieldForm, fieldsForm, nodeForm}
+use Rattle.sheet.specs.Reach.{lineFrom}
 use Rattle.sheet.proofs.Walks.{told}
 use Rattle.walk.proofs.Steps.{word-ends, item-ends as item-step, pair-ends as pair-step, field-ends as field-step, node-ends as node-step}
 use Rattle.walk.proofs.Cycle.{head-moves, source-keyboard, source-prompt, source-file, element-expr, element-range, repeat-step, repeat-end, fields-step, fields-end}
@@ -67,31 +68,31 @@ use Rattle.walk.proofs.quick.+body_ends+element_ends+field_ends+fields_
 }
 
 abbrev μ-body-ends : Measures 2 body-ends-kinds.ps ℕ
-μ-body-ends κs a = 8 * (length (a .0 .now) - a .1 .1 .1 .1 .1 .1 .0) + 7
+μ-body-ends κs a = 8 * (length (a .0 .now) - a .1 .1 .1 .1 .1 .1 .1 .0) + 7
 
 abbrev μ-element-ends : Measures 2 element-ends-kinds.ps ℕ
-μ-element-ends κs a = 8 * (length (a .0 .now) - a .1 .1 .1 .1 .0) + 1
+μ-element-ends κs a = 8 * (length (a .0 .now) - a .1 .1 .1 .1 .1 .0) + 1
 
 abbrev μ-field-ends : Measures 2 field-ends-kinds.ps ℕ
-μ-field-ends κs a = 8 * (length (a .0 .now) - a .1 .1 .1 .1 .1 .0) + 5
+μ-field-ends κs a = 8 * (length (a .0 .now) - a .1 .1 .1 .1 .1 .1 .0) + 5
 
 abbrev μ-fields-ends : Measures 2 fields-ends-kinds.ps ℕ
-μ-fields-ends κs a = 8 * (length (a .0 .now) - a .1 .1 .1 .1 .1 .1 .0) + 6
+μ-fields-ends κs a = 8 * (length (a .0 .now) - a .1 .1 .1 .1 .1 .1 .1 .0) + 6
 
 abbrev μ-item-ends : Measures 2 item-ends-kinds.ps ℕ
-μ-item-ends κs a = 8 * (length (a .0 .now) - a .1 .1 .1 .1 .1 .0) + 2
+μ-item-ends κs a = 8 * (length (a .0 .now) - a .1 .1 .1 .1 .1 .1 .0) + 2
 
 abbrev μ-list-ends : Measures 2 list-ends-kinds.ps ℕ
-μ-list-ends κs a = 8 * (length (a .0 .now) - a .1 .1 .1 .1 .1 .1 .0) + 4
+μ-list-ends κs a = 8 * (length (a .0 .now) - a .1 .1 .1 .1 .1 .1 .1 .0) + 4
 
 abbrev μ-node-ends : Measures 2 node-ends-kinds.ps ℕ
-μ-node-ends κs a = 8 * (length (a .0 .now) - a .1 .1 .1 .1 .1 .0)
+μ-node-ends κs a = 8 * (length (a .0 .now) - a .1 .1 .1 .1 .1 .1 .0)
 
 abbrev μ-pair-ends : Measures 2 pair-ends-kinds.ps ℕ
-μ-pair-ends κs a = 8 * (length (a .0 .now) - a .1 .1 .1 .1 .1 .1 .0) + 3
+μ-pair-ends κs a = 8 * (length (a .0 .now) - a .1 .1 .1 .1 .1 .1 .1 .0) + 3
 
 abbrev μ-source-ends : Measures 2 source-ends-kinds.ps ℕ
-μ-source-ends κs a = 8 * (length (a .0 .now) - a .1 .1 .1 .1 .0) + 1
+μ-source-ends κs a = 8 * (length (a .0 .now) - a .1 .1 .1 .1 .1 .0) + 1
 
 abbrev body-ends-at : ℕ → In 2 body-ends-kinds.ps
 body-ends-at t = and 2 body-ends-kinds.ps (is 2 body-ends-kinds.ps μ-body-ends t) body-ends.Pre
@@ -164,7 +165,7 @@ abbrev source-ends-below : ℕ → In 2 source-ends-kinds.ps
 source-ends-below t =
     and 2 source-ends-kinds.ps (falls 2 source-ends-kinds.ps _<_ μ-source-ends t) source-ends.Pre
 
--- src/quick.rt:225:9
+-- src/quick.rt:273:9
 body-ends-own-ends-requires : (t : ℕ) → body-ends-lts.Need-own-ends-requires (
   own-ends-reads.Asked,
   own-ends-reads.Learnt,
@@ -179,7 +180,7 @@ body-ends-own-ends-requires : (t : ℕ) → body-ends-lts.Need-own-ends-requires
 ) (body-ends-at t) body-ends.Post
 body-ends-own-ends-requires t c κs = search needs
 
--- src/quick.rt:227:9
+-- src/quick.rt:275:9
 body-ends-returns : (t : ℕ) → body-ends-lts.Need-returns (
   own-ends-reads.Asked,
   own-ends-reads.Learnt,
@@ -194,7 +195,7 @@ body-ends-returns : (t : ℕ) → body-ends-lts.Need-returns (
 ) (body-ends-at t) body-ends.Post
 body-ends-returns t c = nowhere _
 
--- src/quick.rt:229:9
+-- src/quick.rt:277:9
 body-ends-case-of-requires : (t : ℕ) → body-ends-lts.Need-case-of-requires (
   own-ends-reads.Asked,
   own-ends-reads.Learnt,
@@ -209,7 +210,7 @@ body-ends-case-of-requires : (t : ℕ) → body-ends-lts.Need-case-of-requires (
 ) (body-ends-at t) body-ends.Post
 body-ends-case-of-requires t c κs = search needs
 
--- src/quick.rt:230:9
+-- src/quick.rt:278:9
 body-ends-start-at-requires : (t : ℕ) → body-ends-lts.Need-start-at-requires (
   own-ends-reads.Asked,
   own-ends-reads.Learnt,
@@ -224,7 +225,7 @@ body-ends-start-at-requires : (t : ℕ) → body-ends-lts.Need-start-at-requires
 ) (body-ends-at t) body-ends.Post
 body-ends-start-at-requires t c κs = search needs
 
--- src/quick.rt:231:9
+-- src/quick.rt:279:9
 body-ends-start-after-requires : (t : ℕ) → body-ends-lts.Need-start-after-requires (
   own-ends-reads.Asked,
   own-ends-reads.Learnt,
@@ -239,7 +240,7 @@ body-ends-start-after-requires : (t : ℕ) → body-ends-lts.Need-start-after-re
 ) (body-ends-at t) body-ends.Post
 body-ends-start-after-requires t c κs = search needs
 
--- src/quick.rt:232:5
+-- src/quick.rt:280:5
 body-ends-fields-ends-requires : (t : ℕ) → body-ends-lts.Need-fields-ends-requires (
   own-ends-reads.Asked,
   own-ends-reads.Learnt,
@@ -252,9 +253,9 @@ body-ends-fields-ends-requires : (t : ℕ) → body-ends-lts.Need-fields-ends-re
   fields-ends-below t,
   fields-ends.Post,
 ) (body-ends-at t) body-ends.Post
-body-ends-fields-ends-requires t c κs = omega (arith, (c .before .before .before .before .before .before .before .pre .0), reach-later (c .before .before .before .before .before .before .before .args .sheet .now) _ _ _ (item-step (c .before .before .before .before .before .before .before .args .sheet .now) (c .before .before .before .before .before .before .before .args .text .now) (c .before .before .before .before .before .before .before .args .line) (nodeForm (c .before .before .before .before .before .before .before .args .sheet .now) (c .before .before .before .before .before .before .before .args .text .now) (c .before .before .before .before .before .before .before .args .line) 0) (node-step (c .before .before .before .before .before .before .before .args .sheet .now) (c .before .before .before .before .before .before .before .args .text .now) (c .before .before .before .before .before .before .before .args .line) 0) (ownRange (c .before .before .before .before .before .before .before .args .c) (c .before .before .before .before .before .before .before .args .k)) (c .before .before .before .before .before .before .before .args .at)) (c .before .before .before .before .own-ends .ensures) (c .before .before .before .if1 .left))
+body-ends-fields-ends-requires t c κs = omega (arith, (c .before .before .before .before .before .before .before .pre .0), reach-later (c .before .before .before .before .before .before .before .args .sheet .now) _ _ _ (item-step (c .before .before .before .before .before .before .before .args .sheet .now) (c .before .before .before .before .before .before .before .args .text .now) (lineFrom (c .before .before .before .before .before .before .before .args .base) (c .before .before .before .before .before .before .before .args .len)) (nodeForm (c .before .before .before .before .before .before .before .args .sheet .now) (c .before .before .before .before .before .before .before .args .text .now) (lineFrom (c .before .before .before .before .before .before .before .args .base) (c .before .before .before .before .before .before .before .args .len)) 0) (node-step (c .before .before .before .before .before .before .before .args .sheet .now) (c .before .before .before .before .before .before .before .args .text .now) (lineFrom (c .before .before .before .before .before .before .before .args .base) (c .before .before .before .before .before .before .before .args .len)) 0) (ownRange (c .before .before .before .before .before .before .before .args .c) (c .before .before .before .before .before .before .before .args .k)) (c .before .before .before .before .before .before .before .args .at)) (c .before .before .before .before .own-ends .ensures) (c .before .before .before .if1 .left))
 
--- src/quick.rt:214:1
+-- src/quick.rt:261:1
 body-ends-returns-2 : (t : ℕ) → body-ends-lts.Need-returns-2 (
   own-ends-reads.Asked,
   own-ends-reads.Learnt,
@@ -267,9 +268,9 @@ body-ends-returns-2 : (t : ℕ) → body-ends-lts.Need-returns-2 (
   fields-ends-below t,
   fields-ends.Post,
 ) (body-ends-at t) body-ends.Post
-body-ends-returns-2 t c = reach-body (c .before .before .before .before .before .before .before .before .args .sheet .now) (c .before .before .before .before .before .before .before .before .args .text .now) (c .before .before .before .before .before .before .before .before .args .line) _ _ _ _ _ _ _ _ _ (c .before .before .before .before .before .own-ends .ensures) (c .before .before .before .before .if1 .left) (c .before .before .before .case-of .ensures) (c .before .before .start-at .ensures) (c .before .start-after .ensures) (c .fields-ends .ensures)
+body-ends-returns-2 t c = reach-body (c .before .before .before .before .before .before .before .before .args .sheet .now) (c .before .before .before .before .before .before .before .before .args .text .now) (lineFrom (c .before .before .before .before .before .before .before .before .args .base) (c .before .before .before .before .before .before .before .before .args .len)) _ _ _ _ _ _ _ _ _ (c .before .before .before .before .before .own-ends .ensures) (c .before .before .before .before .if1 .left) (c .before .before .before .case-of .ensures) (c .before .before .start-at .ensures) (c .before .start-after .ensures) (c .fields-ends .ensures)
 
--- src/quick.rt:49:18
+-- src/quick.rt:64:18
 element-ends-take-word-requires : (t : ℕ) → element-ends-lts.Need-take-word-requires (
   take-word-reads.Asked,
   take-word-reads.Learnt,
@@ -284,7 +285,7 @@ element-ends-take-word-requires : (t : ℕ) → element-ends-lts.Need-take-word-
 ) (element-ends-at t) element-ends.Post
 element-ends-take-word-requires t c κs = search needs
 
--- src/quick.rt:49:9
+-- src/quick.rt:64:9
 element-ends-ends-requires : (t : ℕ) → element-ends-lts.Need-ends-requires (
   take-word-reads.Asked,
   take-word-reads.Learnt,
@@ -299,7 +300,7 @@ element-ends-ends-requires : (t : ℕ) → element-ends-lts.Need-ends-requires (
 ) (element-ends-at t) element-ends.Post
 element-ends-ends-requires t c κs = search needs
 
--- src/quick.rt:51:9
+-- src/quick.rt:66:9
 element-ends-returns : (t : ℕ) → element-ends-lts.Need-returns (
   take-word-reads.Asked,
   take-word-reads.Learnt,
@@ -314,7 +315,7 @@ element-ends-returns : (t : ℕ) → element-ends-lts.Need-returns (
 ) (element-ends-at t) element-ends.Post
 element-ends-returns t c = nowhere _
 
--- src/quick.rt:53:8
+-- src/quick.rt:68:8
 element-ends-payload-at-requires : (t : ℕ) → element-ends-lts.Need-payload-at-requires (
   take-word-reads.Asked,
   take-word-reads.Learnt,
@@ -329,7 +330,7 @@ element-ends-payload-at-requires : (t : ℕ) → element-ends-lts.Need-payload-a
 ) (element-ends-at t) element-ends.Post
 element-ends-payload-at-requires t c κs = search needs
 
--- src/quick.rt:54:9
+-- src/quick.rt:69:9
 element-ends-node-ends-requires : (t : ℕ) → element-ends-lts.Need-node-ends-requires (
   take-word-reads.Asked,
   take-word-reads.Learnt,
@@ -344,7 +345,7 @@ element-ends-node-ends-requires : (t : ℕ) → element-ends-lts.Need-node-ends-
 ) (element-ends-at t) element-ends.Post
 element-ends-node-ends-requires t c κs = omega (arith, (c .before .before .before .before .before .before .before .pre .0), reach-later (c .before .before .before .before .before .before .before .args .sheet .now) _ _ _ (word-ends (c .before .before .before .before .before .before .before .args .sheet .now) 8 3 (c .before .before .before .before .before .before .before .args .at)) (reach-same _ _ _ (c .before .before .before .before .take-word .ensures) (c .before .before .before .ends .ensures)) (c .before .before .if1 .left))
 
--- src/quick.rt:54:9
+-- src/quick.rt:69:9
 element-ends-returns-2 : (t : ℕ) → element-ends-lts.Need-returns-2 (
   take-word-reads.Asked,
   take-word-reads.Learnt,
@@ -358,9 +359,9 @@ element-ends-returns-2 : (t : ℕ) → element-ends-lts.Need-returns-2 (
   range-form-reads.Learnt,
 ) (element-ends-at t) element-ends.Post
 unfolding itemForm
-element-ends-returns-2 t c = reach-then _ _ _ _ (reach-same _ _ _ (c .before .before .before .before .before .take-word .ensures) (c .before .before .before .before .ends .ensures)) (c .before .before .before .if1 .left) (reach-same _ _ _ (element-expr (c .before .before .before .before .before .before .before .before .args .sheet .now) (c .before .before .before .before .before .before .before .before .args .text .now) (c .before .before .before .before .before .before .before .before .args .line) (nodeForm (c .before .before .before .before .before .before .before .before .args .sheet .now) (c .before .before .before .before .before .before .before .before .args .text .now) (c .before .before .before .before .before .before .before .before .args .line) (c .before .before .before .before .before .before .before .before .args .left)) _ _ _ _ (c .before .before .payload-at .ensures) (c .before .if2 .taken) refl) (c .node-ends .ensures))
+element-ends-returns-2 t c = reach-then _ _ _ _ (reach-same _ _ _ (c .before .before .before .before .before .take-word .ensures) (c .before .before .before .before .ends .ensures)) (c .before .before .before .if1 .left) (reach-same _ _ _ (element-expr (c .before .before .before .before .before .before .before .before .args .sheet .now) (c .before .before .before .before .before .before .before .before .args .text .now) (lineFrom (c .before .before .before .before .before .before .before .before .args .base) (c .before .before .before .before .before .before .before .before .args .len)) (nodeForm (c .before .before .before .before .before .before .before .before .args .sheet .now) (c .before .before .before .before .before .before .before .before .args .text .now) (lineFrom (c .before .before .before .before .before .before .before .before .args .base) (c .before .before .before .before .before .before .before .before .args .len)) (c .before .before .before .before .before .before .before .before .args .left)) _ _ _ _ (c .before .before .payload-at .ensures) (c .before .if2 .taken) refl) (c .node-ends .ensures))
 
--- src/quick.rt:56:10
+-- src/quick.rt:71:10
 element-ends-range-form-requires : (t : ℕ) → element-ends-lts.Need-range-form-requires (
   take-word-reads.Asked,
   take-word-reads.Learnt,
@@ -375,7 +376,7 @@ element-ends-range-form-requires : (t : ℕ) → element-ends-lts.Need-range-for
 ) (element-ends-at t) element-ends.Post
 element-ends-range-form-requires t c κs = search needs
 
--- src/quick.rt:56:5
+-- src/quick.rt:71:5
 element-ends-ends-requires-2 : (t : ℕ) → element-ends-lts.Need-ends-requires-2 (
   take-word-reads.Asked,
   take-word-reads.Learnt,
@@ -390,7 +391,7 @@ element-ends-ends-requires-2 : (t : ℕ) → element-ends-lts.Need-ends-requires
 ) (element-ends-at t) element-ends.Post
 element-ends-ends-requires-2 t c κs = search needs
 
--- src/quick.rt:46:1
+-- src/quick.rt:54:1
 element-ends-returns-3 : (t : ℕ) → element-ends-lts.Need-returns-3 (
   take-word-reads.Asked,
   take-word-reads.Learnt,
@@ -404,9 +405,9 @@ element-ends-returns-3 : (t : ℕ) → element-ends-lts.Need-returns-3 (
   range-form-reads.Learnt,
 ) (element-ends-at t) element-ends.Post
 unfolding itemForm
-element-ends-returns-3 t c = reach-then _ _ _ _ (reach-same _ _ _ (c .before .before .before .before .before .before .take-word .ensures) (c .before .before .before .before .before .ends .ensures)) (c .before .before .before .before .if1 .left) (reach-same _ _ _ (element-range (c .before .before .before .before .before .before .before .before .before .args .sheet .now) (c .before .before .before .before .before .before .before .before .before .args .text .now) (c .before .before .before .before .before .before .before .before .before .args .line) (nodeForm (c .before .before .before .before .before .before .before .before .before .args .sheet .now) (c .before .before .before .before .before .before .before .before .before .args .text .now) (c .before .before .before .before .before .before .before .before .before .args .line) (c .before .before .before .before .before .before .before .before .before .args .left)) _ _ _ _ (c .before .before .before .payload-at .ensures) (c .before .before .if2 .left) (c .before .range-form .ensures)) (c .ends2 .ensures))
+element-ends-returns-3 t c = reach-then _ _ _ _ (reach-same _ _ _ (c .before .before .before .before .before .before .take-word .ensures) (c .before .before .before .before .before .ends .ensures)) (c .before .before .before .before .if1 .left) (reach-same _ _ _ (element-range (c .before .before .before .before .before .before .before .before .before .args .sheet .now) (c .before .before .before .before .before .before .before .before .before .args .text .now) (lineFrom (c .before .before .before .before .before .before .before .before .before .args .base) (c .before .before .before .before .before .before .before .before .before .args .len)) (nodeForm (c .before .before .before .before .before .before .before .before .before .args .sheet .now) (c .before .before .before .before .before .before .before .before .before .args .text .now) (lineFrom (c .before .before .before .before .before .before .before .before .before .args .base) (c .before .before .before .before .before .before .before .before .before .args .len)) (c .before .before .before .before .before .before .before .before .before .args .left)) _ _ _ _ (c .before .before .before .payload-at .ensures) (c .before .before .if2 .left) (c .before .range-form .ensures)) (c .ends2 .ensures))
 
--- src/quick.rt:137:24
+-- src/quick.rt:175:34
 field-ends-enum-told : (t : ℕ) → field-ends-lts.Need-enum-told (
   pair-ends-below t,
   pair-ends.Post,
@@ -423,7 +424,7 @@ field-ends-enum-told : (t : ℕ) → field-ends-lts.Need-enum-told (
 ) (field-ends-at t) field-ends.Post
 field-ends-enum-told t c = search needs
 
--- src/quick.rt:137:24
+-- src/quick.rt:175:24
 field-ends-pair-ends-requires : (t : ℕ) → field-ends-lts.Need-pair-ends-requires (
   pair-ends-below t,
   pair-ends.Post,
@@ -440,7 +441,7 @@ field-ends-pair-ends-requires : (t : ℕ) → field-ends-lts.Need-pair-ends-requ
 ) (field-ends-at t) field-ends.Post
 field-ends-pair-ends-requires t c κs = omega (arith, (c .before .before .before .before .pre .0))
 
--- src/quick.rt:139:16
+-- src/quick.rt:177:16
 field-ends-enum-told-2 : (t : ℕ) → field-ends-lts.Need-enum-told-2 (
   pair-ends-below t,
   pair-ends.Post,
@@ -457,7 +458,7 @@ field-ends-enum-told-2 : (t : ℕ) → field-ends-lts.Need-enum-told-2 (
 ) (field-ends-at t) field-ends.Post
 field-ends-enum-told-2 t c = search needs
 
--- src/quick.rt:139:16
+-- src/quick.rt:177:16
 field-ends-is-absent-requires : (t : ℕ) → field-ends-lts.Need-is-absent-requires (
   pair-ends-below t,
   pair-ends.Post,
@@ -474,7 +475,7 @@ field-ends-is-absent-requires : (t : ℕ) → field-ends-lts.Need-is-absent-requ
 ) (field-ends-at t) field-ends.Post
 field-ends-is-absent-requires t c κs = search needs
 
--- src/quick.rt:140:22
+-- src/quick.rt:178:22
 field-ends-take-word-requires : (t : ℕ) → field-ends-lts.Need-take-word-requires (
   pair-ends-below t,
   pair-ends.Post,
@@ -491,7 +492,7 @@ field-ends-take-word-requires : (t : ℕ) → field-ends-lts.Need-take-word-requ
 ) (field-ends-at t) field-ends.Post
 field-ends-take-word-requires t c κs = search needs
 
--- src/quick.rt:140:17
+-- src/quick.rt:178:17
 field-ends-ends-requires : (t : ℕ) → field-ends-lts.Need-ends-requires (
   pair-ends-below t,
   pair-ends.Post,
@@ -508,7 +509,7 @@ field-ends-ends-requires : (t : ℕ) → field-ends-lts.Need-ends-requires (
 ) (field-ends-at t) field-ends.Post
 field-ends-ends-requires t c κs = search needs
 
--- src/quick.rt:142:17
+-- src/quick.rt:180:17
 field-ends-pair-ends-requires-2 : (t : ℕ) → field-ends-lts.Need-pair-ends-requires-2 (
   pair-ends-below t,
   pair-ends.Post,
@@ -525,7 +526,7 @@ field-ends-pair-ends-requires-2 : (t : ℕ) → field-ends-lts.Need-pair-ends-re
 ) (field-ends-at t) field-ends.Post
 field-ends-pair-ends-requires-2 t c κs = omega (arith, (c .before .before .before .before .before .before .pre .0))
 
--- src/quick.rt:145:24
+-- src/quick.rt:183:34
 field-ends-enum-told-3 : (t : ℕ) → field-ends-lts.Need-enum-told-3 (
   pair-ends-below t,
   pair-ends.Post,
@@ -542,7 +543,7 @@ field-ends-enum-told-3 : (t : ℕ) → field-ends-lts.Need-enum-told-3 (
 ) (field-ends-at t) field-ends.Post
 field-ends-enum-told-3 t c = search needs
 
--- src/quick.rt:145:24
+-- src/quick.rt:183:24
 field-ends-list-ends-requires : (t : ℕ) → field-ends-lts.Need-list-ends-requires (
   pair-ends-below t,
   pair-ends.Post,
@@ -559,7 +560,7 @@ field-ends-list-ends-requires : (t : ℕ) → field-ends-lts.Need-list-ends-requ
 ) (field-ends-at t) field-ends.Post
 field-ends-list-ends-requires t c κs = omega (arith, (c .before .before .before .before .pre .0))
 
--- src/quick.rt:147:26
+-- src/quick.rt:185:26
 field-ends-enum-told-4 : (t : ℕ) → field-ends-lts.Need-enum-told-4 (
   pair-ends-below t,
   pair-ends.Post,
@@ -576,7 +577,7 @@ field-ends-enum-told-4 : (t : ℕ) → field-ends-lts.Need-enum-told-4 (
 ) (field-ends-at t) field-ends.Post
 field-ends-enum-told-4 t c = search needs
 
--- src/quick.rt:147:26
+-- src/quick.rt:185:26
 field-ends-non-empty-form-requires : (t : ℕ) → field-ends-lts.Need-non-empty-form-requires (
   pair-ends-below t,
   pair-ends.Post,
@@ -593,7 +594,7 @@ field-ends-non-empty-form-requires : (t : ℕ) → field-ends-lts.Need-non-empty
 ) (field-ends-at t) field-ends.Post
 field-ends-non-empty-form-requires t c κs = search needs
 
--- src/quick.rt:147:17
+-- src/quick.rt:185:17
 field-ends-ends-requires-2 : (t : ℕ) → field-ends-lts.Need-ends-requires-2 (
   pair-ends-below t,
   pair-ends.Post,
@@ -610,7 +611,7 @@ field-ends-ends-requires-2 : (t : ℕ) → field-ends-lts.Need-ends-requires-2 (
 ) (field-ends-at t) field-ends.Post
 field-ends-ends-requires-2 t c κs = search needs
 
--- src/quick.rt:149:17
+-- src/quick.rt:187:17
 field-ends-returns : (t : ℕ) → field-ends-lts.Need-returns (
   pair-ends-below t,
   pair-ends.Post,
@@ -627,7 +628,7 @@ field-ends-returns : (t : ℕ) → field-ends-lts.Need-returns (
 ) (field-ends-at t) field-ends.Post
 field-ends-returns t c = nowhere _
 
--- src/quick.rt:151:13
+-- src/quick.rt:189:13
 field-ends-list-ends-requires-2 : (t : ℕ) → field-ends-lts.Need-list-ends-requires-2 (
   pair-ends-below t,
   pair-ends.Post,
@@ -644,7 +645,7 @@ field-ends-list-ends-requires-2 : (t : ℕ) → field-ends-lts.Need-list-ends-re
 ) (field-ends-at t) field-ends.Post
 field-ends-list-ends-requires-2 t c κs = omega (arith, (c .before .before .before .before .before .before .before .pre .0))
 
--- src/quick.rt:154:16
+-- src/quick.rt:192:16
 field-ends-enum-told-5 : (t : ℕ) → field-ends-lts.Need-enum-told-5 (
   pair-ends-below t,
   pair-ends.Post,
@@ -661,7 +662,7 @@ field-ends-enum-told-5 : (t : ℕ) → field-ends-lts.Need-enum-told-5 (
 ) (field-ends-at t) field-ends.Post
 field-ends-enum-told-5 t c = search needs
 
--- src/quick.rt:154:16
+-- src/quick.rt:192:16
 field-ends-is-absent-requires-2 : (t : ℕ) → field-ends-lts.Need-is-absent-requires-2 (
   pair-ends-below t,
   pair-ends.Post,
@@ -678,7 +679,7 @@ field-ends-is-absent-requires-2 : (t : ℕ) → field-ends-lts.Need-is-absent-re
 ) (field-ends-at t) field-ends.Post
 field-ends-is-absent-requires-2 t c κs = search needs
 
--- src/quick.rt:155:22
+-- src/quick.rt:193:22
 field-ends-take-word-requires-2 : (t : ℕ) → field-ends-lts.Need-take-word-requires-2 (
   pair-ends-below t,
   pair-ends.Post,
@@ -695,7 +696,7 @@ field-ends-take-word-requires-2 : (t : ℕ) → field-ends-lts.Need-take-word-re
 ) (field-ends-at t) field-ends.Post
 field-ends-take-word-requires-2 t c κs = search needs
 
--- src/quick.rt:155:17
+-- src/quick.rt:193:17
 field-ends-ends-requires-3 : (t : ℕ) → field-ends-lts.Need-ends-requires-3 (
   pair-ends-below t,
   pair-ends.Post,
@@ -712,7 +713,7 @@ field-ends-ends-requires-3 : (t : ℕ) → field-ends-lts.Need-ends-requires-3 (
 ) (field-ends-at t) field-ends.Post
 field-ends-ends-requires-3 t c κs = search needs
 
--- src/quick.rt:157:17
+-- src/quick.rt:195:17
 field-ends-list-ends-requires-3 : (t : ℕ) → field-ends-lts.Need-list-ends-requires-3 (
   pair-ends-below t,
   pair-ends.Post,
@@ -729,7 +730,7 @@ field-ends-list-ends-requires-3 : (t : ℕ) → field-ends-lts.Need-list-ends-re
 ) (field-ends-at t) field-ends.Post
 field-ends-list-ends-requires-3 t c κs = omega (arith, (c .before .before .before .before .before .before .pre .0))
 
--- src/quick.rt:130:1
+-- src/quick.rt:160:1
 field-ends-returns-2 : (t : ℕ) → field-ends-lts.Need-returns-2 (
   pair-ends-below t,
   pair-ends.Post,
@@ -747,7 +748,7 @@ field-ends-returns-2 : (t : ℕ) → field-ends-lts.Need-returns-2 (
 unfolding fieldForm timesForm
 field-ends-returns-2 t c = rw (c .before .enum-told .given .1) (c .pair-ends .ensures)
 
--- src/quick.rt:130:1
+-- src/quick.rt:160:1
 field-ends-returns-3 : (t : ℕ) → field-ends-lts.Need-returns-3 (
   pair-ends-below t,
   pair-ends.Post,
@@ -765,7 +766,7 @@ field-ends-returns-3 : (t : ℕ) → field-ends-lts.Need-returns-3 (
 unfolding fieldForm timesForm
 field-ends-returns-3 t c = rw (c .before .before .before .before .enum-told2 .given .1) (reach-yes _ _ _ _ _ (told _ _ _ (c .before .before .before .is-absent .ensures) (c .before .before .if1 .taken)) (reach-same _ _ _ (c .before .take-word .ensures) (c .ends .ensures)))
 
--- src/quick.rt:130:1
+-- src/quick.rt:160:1
 field-ends-returns-4 : (t : ℕ) → field-ends-lts.Need-returns-4 (
   pair-ends-below t,
   pair-ends.Post,
@@ -783,7 +784,7 @@ field-ends-returns-4 : (t : ℕ) → field-ends-lts.Need-returns-4 (
 unfolding fieldForm timesForm
 field-ends-returns-4 t c = rw (c .before .before .before .enum-told2 .given .1) (reach-no _ _ _ _ _ (told _ _ _ (c .before .before .is-absent .ensures) (c .before .if1 .left)) (c .pair-ends2 .ensures))
 
--- src/quick.rt:130:1
+-- src/quick.rt:160:1
 field-ends-returns-5 : (t : ℕ) → field-ends-lts.Need-returns-5 (
   pair-ends-below t,
   pair-ends.Post,
@@ -801,7 +802,7 @@ field-ends-returns-5 : (t : ℕ) → field-ends-lts.Need-returns-5 (
 unfolding fieldForm timesForm
 field-ends-returns-5 t c = rw (c .before .enum-told3 .given .1) (c .list-ends .ensures)
 
--- src/quick.rt:130:1
+-- src/quick.rt:160:1
 field-ends-returns-6 : (t : ℕ) → field-ends-lts.Need-returns-6 (
   pair-ends-below t,
   pair-ends.Post,
@@ -819,7 +820,7 @@ field-ends-returns-6 : (t : ℕ) → field-ends-lts.Need-returns-6 (
 unfolding fieldForm timesForm
 field-ends-returns-6 t c = rw (c .before .before .before .before .enum-told4 .given .1) (reach-then _ _ _ _ (reach-same _ _ _ (c .before .before .before .non-empty-form .ensures) (c .before .before .ends2 .ensures)) (c .before .if2 .left) (c .list-ends2 .ensures))
 
--- src/quick.rt:130:1
+-- src/quick.rt:160:1
 field-ends-returns-7 : (t : ℕ) → field-ends-lts.Need-returns-7 (
   pair-ends-below t,
   pair-ends.Post,
@@ -837,7 +838,7 @@ field-ends-returns-7 : (t : ℕ) → field-ends-lts.Need-returns-7 (
 unfolding fieldForm timesForm
 field-ends-returns-7 t c = rw (c .before .before .before .before .enum-told5 .given .1) (reach-yes _ _ _ _ _ (told _ _ _ (c .before .before .before .is-absent2 .ensures) (c .before .before .if3 .taken)) (reach-same _ _ _ (c .before .take-word2 .ensures) (c .ends3 .ensures)))
 
--- src/quick.rt:130:1
+-- src/quick.rt:160:1
 field-ends-returns-8 : (t : ℕ) → field-ends-lts.Need-returns-8 (
   pair-ends-below t,
   pair-ends.Post,
@@ -856,12 +857,12 @@ unfolding fieldForm timesForm
 field-ends-returns-8 t c = rw (c .before .before .before .enum-told5 .given .1) (reach-no _ _ _ _ _ (told _ _ _ (c .before .before .is-absent2 .ensures) (c .before .if3 .left)) (c .list-ends3 .ensures))
 
 abbrev fields-ends-Inv-loop : fields-ends-lts.InvT-loop
-fields-ends-Inv-loop sheet text line left i e at p₀ j₀ p j = (p₀ ≤ p) × (fieldsForm sheet text line (nodeForm sheet text line left) (fieldsFrom j (e - j)) p ≡ fieldsForm sheet text line (nodeForm sheet text line left) (fieldsFrom j₀ (e - j₀)) p₀)
+fields-ends-Inv-loop sheet text base len left i e at p₀ j₀ p j = (p₀ ≤ p) × (fieldsForm sheet text (lineFrom base len) (nodeForm sheet text (lineFrom base len) left) (fieldsFrom j (e - j)) p ≡ fieldsForm sheet text (lineFrom base len) (nodeForm sheet text (lineFrom base len) left) (fieldsFrom j₀ (e - j₀)) p₀)
 
 abbrev fields-ends-μ-loop : fields-ends-lts.MeasureT-loop
-fields-ends-μ-loop sheet text line left i e at p₀ j₀ p j = e - j
+fields-ends-μ-loop sheet text base len left i e at p₀ j₀ p j = e - j
 
--- src/quick.rt:177:5
+-- src/quick.rt:216:5
 fields-ends-loop-holds : (t : ℕ) → fields-ends-lts.Need-loop-holds (
   field-at-reads.Asked,
   field-at-reads.Learnt,
@@ -870,7 +871,7 @@ fields-ends-loop-holds : (t : ℕ) → fields-ends-lts.Need-loop-holds (
 ) (fields-ends-at t) fields-ends.Post fields-ends-Inv-loop fields-ends-μ-loop
 fields-ends-loop-holds t c = (omega arith, refl)
 
--- src/quick.rt:178:13
+-- src/quick.rt:217:13
 fields-ends-field-at-requires : (t : ℕ) → fields-ends-lts.Need-field-at-requires (
   field-at-reads.Asked,
   field-at-reads.Learnt,
@@ -879,7 +880,7 @@ fields-ends-field-at-requires : (t : ℕ) → fields-ends-lts.Need-field-at-requ
 ) (fields-ends-at t) fields-ends.Post fields-ends-Inv-loop fields-ends-μ-loop
 fields-ends-field-at-requires t c κs = search needs
 
--- src/quick.rt:179:13
+-- src/quick.rt:218:13
 fields-ends-field-ends-requires : (t : ℕ) → fields-ends-lts.Need-field-ends-requires (
   field-at-reads.Asked,
   field-at-reads.Learnt,
@@ -888,7 +889,7 @@ fields-ends-field-ends-requires : (t : ℕ) → fields-ends-lts.Need-field-ends-
 ) (fields-ends-at t) fields-ends.Post fields-ends-Inv-loop fields-ends-μ-loop
 fields-ends-field-ends-requires t c κs = omega (arith, (c .before .before .before .before .before .pre .0), (c .before .before .loop .inv .0))
 
--- src/quick.rt:181:13
+-- src/quick.rt:220:13
 fields-ends-returns : (t : ℕ) → fields-ends-lts.Need-returns (
   field-at-reads.Asked,
   field-at-reads.Learnt,
@@ -897,7 +898,7 @@ fields-ends-returns : (t : ℕ) → fields-ends-lts.Need-returns (
 ) (fields-ends-at t) fields-ends.Post fields-ends-Inv-loop fields-ends-μ-loop
 fields-ends-returns t c = nowhere _
 
--- src/quick.rt:184:9
+-- src/quick.rt:223:9
 fields-ends-add-j : (t : ℕ) → fields-ends-lts.Need-add-j (
   field-at-reads.Asked,
   field-at-reads.Learnt,
@@ -906,7 +907,7 @@ fields-ends-add-j : (t : ℕ) → fields-ends-lts.Need-add-j (
 ) (fields-ends-at t) fields-ends.Post fields-ends-Inv-loop fields-ends-μ-loop
 fields-ends-add-j t c = search needs
 
--- src/quick.rt:177:5
+-- src/quick.rt:216:5
 fields-ends-loop-less : (t : ℕ) → fields-ends-lts.Need-loop-less (
   field-at-reads.Asked,
   field-at-reads.Learnt,
@@ -915,25 +916,25 @@ fields-ends-loop-less : (t : ℕ) → fields-ends-lts.Need-loop-less (
 ) (fields-ends-at t) fields-ends.Post fields-ends-Inv-loop fields-ends-μ-loop
 fields-ends-loop-less t c = omega (arith, (c .before .before .before .loop-test .taken))
 
--- src/quick.rt:177:5
+-- src/quick.rt:216:5
 fields-ends-loop-again : (t : ℕ) → fields-ends-lts.Need-loop-again (
   field-at-reads.Asked,
   field-at-reads.Learnt,
   field-ends-below t,
   field-ends.Post,
 ) (fields-ends-at t) fields-ends.Post fields-ends-Inv-loop fields-ends-μ-loop
-fields-ends-loop-again t c = (omega (arith, (c .before .before .before .before .loop .inv .0), reach-later (c .before .before .before .before .before .before .before .args .sheet .now) _ _ _ (field-step (c .before .before .before .before .before .before .before .args .sheet .now) (c .before .before .before .before .before .before .before .args .text .now) (c .before .before .before .before .before .before .before .args .line) (nodeForm (c .before .before .before .before .before .before .before .args .sheet .now) (c .before .before .before .before .before .before .before .args .text .now) (c .before .before .before .before .before .before .before .args .line) (c .before .before .before .before .before .before .before .args .left)) (node-step (c .before .before .before .before .before .before .before .args .sheet .now) (c .before .before .before .before .before .before .before .args .text .now) (c .before .before .before .before .before .before .before .args .line) (c .before .before .before .before .before .before .before .args .left)) (c .before .before .field-at .result) (c .before .before .before .before .loop .p)) (c .before .field-ends .ensures) (c .if1 .left)), fields-step (c .before .before .before .before .before .before .before .args .sheet .now) (c .before .before .before .before .before .before .before .args .text .now) (c .before .before .before .before .before .before .before .args .line) (nodeForm (c .before .before .before .before .before .before .before .args .sheet .now) (c .before .before .before .before .before .before .before .args .text .now) (c .before .before .before .before .before .before .before .args .line) (c .before .before .before .before .before .before .before .args .left)) _ _ _ _ _ _ _ (c .before .before .before .loop-test .taken) (c .before .before .field-at .ensures) refl ((c .before .field-ends .ensures) (c .if1 .left)) (c .before .before .before .before .loop .inv .1))
+fields-ends-loop-again t c = (omega (arith, (c .before .before .before .before .loop .inv .0), reach-later (c .before .before .before .before .before .before .before .args .sheet .now) _ _ _ (field-step (c .before .before .before .before .before .before .before .args .sheet .now) (c .before .before .before .before .before .before .before .args .text .now) (lineFrom (c .before .before .before .before .before .before .before .args .base) (c .before .before .before .before .before .before .before .args .len)) (nodeForm (c .before .before .before .before .before .before .before .args .sheet .now) (c .before .before .before .before .before .before .before .args .text .now) (lineFrom (c .before .before .before .before .before .before .before .args .base) (c .before .before .before .before .before .before .before .args .len)) (c .before .before .before .before .before .before .before .args .left)) (node-step (c .before .before .before .before .before .before .before .args .sheet .now) (c .before .before .before .before .before .before .before .args .text .now) (lineFrom (c .before .before .before .before .before .before .before .args .base) (c .before .before .before .before .before .before .before .args .len)) (c .before .before .before .before .before .before .before .args .left)) (c .before .before .field-at .result) (c .before .before .before .before .loop .p)) (c .before .field-ends .ensures) (c .if1 .left)), fields-step (c .before .before .before .before .before .before .before .args .sheet .now) (c .before .before .before .before .before .before .before .args .text .now) (lineFrom (c .before .before .before .before .before .before .before .args .base) (c .before .before .before .before .before .before .before .args .len)) (nodeForm (c .before .before .before .before .before .before .before .args .sheet .now) (c .before .before .before .before .before .before .before .args .text .now) (lineFrom (c .before .before .before .before .before .before .before .args .base) (c .before .before .before .before .before .before .before .args .len)) (c .before .before .before .before .before .before .before .args .left)) _ _ _ _ _ _ _ (c .before .before .before .loop-test .taken) (c .before .before .field-at .ensures) refl ((c .before .field-ends .ensures) (c .if1 .left)) (c .before .before .before .before .loop .inv .1))
 
--- src/quick.rt:164:1
+-- src/quick.rt:202:1
 fields-ends-returns-2 : (t : ℕ) → fields-ends-lts.Need-returns-2 (
   field-at-reads.Asked,
   field-at-reads.Learnt,
   field-ends-below t,
   field-ends.Post,
 ) (fields-ends-at t) fields-ends.Post fields-ends-Inv-loop fields-ends-μ-loop
-fields-ends-returns-2 t c = reach-end _ _ (fields-end (c .before .before .before .before .args .sheet .now) (c .before .before .before .before .args .text .now) (c .before .before .before .before .args .line) (nodeForm (c .before .before .before .before .args .sheet .now) (c .before .before .before .before .args .text .now) (c .before .before .before .before .args .line) (c .before .before .before .before .args .left)) _ _ _ _ (c .loop-test .left) (c .before .loop .inv .1))
+fields-ends-returns-2 t c = reach-end _ _ (fields-end (c .before .before .before .before .args .sheet .now) (c .before .before .before .before .args .text .now) (lineFrom (c .before .before .before .before .args .base) (c .before .before .before .before .args .len)) (nodeForm (c .before .before .before .before .args .sheet .now) (c .before .before .before .before .args .text .now) (lineFrom (c .before .before .before .before .args .base) (c .before .before .before .before .args .len)) (c .before .before .before .before .args .left)) _ _ _ _ (c .loop-test .left) (c .before .loop .inv .1))
 
--- src/quick.rt:63:26
+-- src/quick.rt:86:26
 item-ends-enum-told : (t : ℕ) → item-ends-lts.Need-enum-told (
   take-word-reads.Asked,
   take-word-reads.Learnt,
@@ -962,7 +963,7 @@ item-ends-enum-told : (t : ℕ) → item-ends-lts.Need-enum-told (
 ) (item-ends-at t) item-ends.Post
 item-ends-enum-told t c = search needs
 
--- src/quick.rt:64:20
+-- src/quick.rt:87:20
 item-ends-enum-known-item : (t : ℕ) → item-ends-lts.Need-enum-known-item (
   take-word-reads.Asked,
   take-word-reads.Learnt,
@@ -991,7 +992,7 @@ item-ends-enum-known-item : (t : ℕ) → item-ends-lts.Need-enum-known-item (
 ) (item-ends-at t) item-ends.Post
 item-ends-enum-known-item t c = search needs
 
--- src/quick.rt:64:34
+-- src/quick.rt:87:34
 item-ends-take-word-requires : (t : ℕ) → item-ends-lts.Need-take-word-requires (
   take-word-reads.Asked,
   take-word-reads.Learnt,
@@ -1020,7 +1021,7 @@ item-ends-take-word-requires : (t : ℕ) → item-ends-lts.Need-take-word-requir
 ) (item-ends-at t) item-ends.Post
 item-ends-take-word-requires t c κs = search needs
 
--- src/quick.rt:64:29
+-- src/quick.rt:87:29
 item-ends-ends-requires : (t : ℕ) → item-ends-lts.Need-ends-requires (
   take-word-reads.Asked,
   take-word-reads.Learnt,
@@ -1049,7 +1050,7 @@ item-ends-ends-requires : (t : ℕ) → item-ends-lts.Need-ends-requires (
 ) (item-ends-at t) item-ends.Post
 item-ends-ends-requires t c κs = search needs
 
--- src/quick.rt:65:29
+-- src/quick.rt:88:60
 item-ends-enum-told-2 : (t : ℕ) → item-ends-lts.Need-enum-told-2 (
   take-word-reads.Asked,
   take-word-reads.Learnt,
@@ -1078,7 +1079,7 @@ item-ends-enum-told-2 : (t : ℕ) → item-ends-lts.Need-enum-told-2 (
 ) (item-ends-at t) item-ends.Post
 item-ends-enum-told-2 t c = search needs
 
--- src/quick.rt:65:29
+-- src/quick.rt:88:29
 item-ends-range-form-requires : (t : ℕ) → item-ends-lts.Need-range-form-requires (
   take-word-reads.Asked,
   take-word-reads.Learnt,
@@ -1107,7 +1108,7 @@ item-ends-range-form-requires : (t : ℕ) → item-ends-lts.Need-range-form-requ
 ) (item-ends-at t) item-ends.Post
 item-ends-range-form-requires t c κs = search needs
 
--- src/quick.rt:65:24
+-- src/quick.rt:88:24
 item-ends-ends-requires-2 : (t : ℕ) → item-ends-lts.Need-ends-requires-2 (
   take-word-reads.Asked,
   take-word-reads.Learnt,
@@ -1136,7 +1137,7 @@ item-ends-ends-requires-2 : (t : ℕ) → item-ends-lts.Need-ends-requires-2 (
 ) (item-ends-at t) item-ends.Post
 item-ends-ends-requires-2 t c κs = search needs
 
--- src/quick.rt:66:28
+-- src/quick.rt:89:51
 item-ends-enum-told-3 : (t : ℕ) → item-ends-lts.Need-enum-told-3 (
   take-word-reads.Asked,
   take-word-reads.Learnt,
@@ -1165,7 +1166,7 @@ item-ends-enum-told-3 : (t : ℕ) → item-ends-lts.Need-enum-told-3 (
 ) (item-ends-at t) item-ends.Post
 item-ends-enum-told-3 t c = search needs
 
--- src/quick.rt:66:28
+-- src/quick.rt:89:28
 item-ends-name-form-requires : (t : ℕ) → item-ends-lts.Need-name-form-requires (
   take-word-reads.Asked,
   take-word-reads.Learnt,
@@ -1194,7 +1195,7 @@ item-ends-name-form-requires : (t : ℕ) → item-ends-lts.Need-name-form-requir
 ) (item-ends-at t) item-ends.Post
 item-ends-name-form-requires t c κs = search needs
 
--- src/quick.rt:66:23
+-- src/quick.rt:89:23
 item-ends-ends-requires-3 : (t : ℕ) → item-ends-lts.Need-ends-requires-3 (
   take-word-reads.Asked,
   take-word-reads.Learnt,
@@ -1223,7 +1224,7 @@ item-ends-ends-requires-3 : (t : ℕ) → item-ends-lts.Need-ends-requires-3 (
 ) (item-ends-at t) item-ends.Post
 item-ends-ends-requires-3 t c κs = search needs
 
--- src/quick.rt:67:36
+-- src/quick.rt:91:13
 item-ends-enum-told-4 : (t : ℕ) → item-ends-lts.Need-enum-told-4 (
   take-word-reads.Asked,
   take-word-reads.Learnt,
@@ -1252,7 +1253,7 @@ item-ends-enum-told-4 : (t : ℕ) → item-ends-lts.Need-enum-told-4 (
 ) (item-ends-at t) item-ends.Post
 item-ends-enum-told-4 t c = search needs
 
--- src/quick.rt:67:36
+-- src/quick.rt:90:36
 item-ends-optional-name-form-requires : (t : ℕ) → item-ends-lts.Need-optional-name-form-requires (
   take-word-reads.Asked,
   take-word-reads.Learnt,
@@ -1281,7 +1282,7 @@ item-ends-optional-name-form-requires : (t : ℕ) → item-ends-lts.Need-optiona
 ) (item-ends-at t) item-ends.Post
 item-ends-optional-name-form-requires t c κs = search needs
 
--- src/quick.rt:67:31
+-- src/quick.rt:90:31
 item-ends-ends-requires-4 : (t : ℕ) → item-ends-lts.Need-ends-requires-4 (
   take-word-reads.Asked,
   take-word-reads.Learnt,
@@ -1310,7 +1311,7 @@ item-ends-ends-requires-4 : (t : ℕ) → item-ends-lts.Need-ends-requires-4 (
 ) (item-ends-at t) item-ends.Post
 item-ends-ends-requires-4 t c κs = search needs
 
--- src/quick.rt:68:28
+-- src/quick.rt:96:51
 item-ends-enum-told-5 : (t : ℕ) → item-ends-lts.Need-enum-told-5 (
   take-word-reads.Asked,
   take-word-reads.Learnt,
@@ -1339,7 +1340,7 @@ item-ends-enum-told-5 : (t : ℕ) → item-ends-lts.Need-enum-told-5 (
 ) (item-ends-at t) item-ends.Post
 item-ends-enum-told-5 t c = search needs
 
--- src/quick.rt:68:28
+-- src/quick.rt:96:28
 item-ends-text-form-requires : (t : ℕ) → item-ends-lts.Need-text-form-requires (
   take-word-reads.Asked,
   take-word-reads.Learnt,
@@ -1368,7 +1369,7 @@ item-ends-text-form-requires : (t : ℕ) → item-ends-lts.Need-text-form-requir
 ) (item-ends-at t) item-ends.Post
 item-ends-text-form-requires t c κs = search needs
 
--- src/quick.rt:68:23
+-- src/quick.rt:96:23
 item-ends-ends-requires-5 : (t : ℕ) → item-ends-lts.Need-ends-requires-5 (
   take-word-reads.Asked,
   take-word-reads.Learnt,
@@ -1397,7 +1398,7 @@ item-ends-ends-requires-5 : (t : ℕ) → item-ends-lts.Need-ends-requires-5 (
 ) (item-ends-at t) item-ends.Post
 item-ends-ends-requires-5 t c κs = search needs
 
--- src/quick.rt:69:20
+-- src/quick.rt:97:20
 item-ends-enum-known-item-2 : (t : ℕ) → item-ends-lts.Need-enum-known-item-2 (
   take-word-reads.Asked,
   take-word-reads.Learnt,
@@ -1426,7 +1427,7 @@ item-ends-enum-known-item-2 : (t : ℕ) → item-ends-lts.Need-enum-known-item-2
 ) (item-ends-at t) item-ends.Post
 item-ends-enum-known-item-2 t c = search needs
 
--- src/quick.rt:69:26
+-- src/quick.rt:97:26
 item-ends-node-ends-requires : (t : ℕ) → item-ends-lts.Need-node-ends-requires (
   take-word-reads.Asked,
   take-word-reads.Learnt,
@@ -1455,7 +1456,7 @@ item-ends-node-ends-requires : (t : ℕ) → item-ends-lts.Need-node-ends-requir
 ) (item-ends-at t) item-ends.Post
 item-ends-node-ends-requires t c κs = omega (arith, (c .before .before .before .before .before .pre .0))
 
--- src/quick.rt:70:30
+-- src/quick.rt:98:30
 item-ends-enum-told-6 : (t : ℕ) → item-ends-lts.Need-enum-told-6 (
   take-word-reads.Asked,
   take-word-reads.Learnt,
@@ -1484,7 +1485,7 @@ item-ends-enum-told-6 : (t : ℕ) → item-ends-lts.Need-enum-told-6 (
 ) (item-ends-at t) item-ends.Post
 item-ends-enum-told-6 t c = search needs
 
--- src/quick.rt:70:30
+-- src/quick.rt:98:30
 item-ends-number-form-requires : (t : ℕ) → item-ends-lts.Need-number-form-requires (
   take-word-reads.Asked,
   take-word-reads.Learnt,
@@ -1513,7 +1514,7 @@ item-ends-number-form-requires : (t : ℕ) → item-ends-lts.Need-number-form-re
 ) (item-ends-at t) item-ends.Post
 item-ends-number-form-requires t c κs = search needs
 
--- src/quick.rt:70:25
+-- src/quick.rt:98:25
 item-ends-ends-requires-6 : (t : ℕ) → item-ends-lts.Need-ends-requires-6 (
   take-word-reads.Asked,
   take-word-reads.Learnt,
@@ -1542,7 +1543,7 @@ item-ends-ends-requires-6 : (t : ℕ) → item-ends-lts.Need-ends-requires-6 (
 ) (item-ends-at t) item-ends.Post
 item-ends-ends-requires-6 t c κs = search needs
 
--- src/quick.rt:71:37
+-- src/quick.rt:99:37
 item-ends-enum-told-7 : (t : ℕ) → item-ends-lts.Need-enum-told-7 (
   take-word-reads.Asked,
   take-word-reads.Learnt,
@@ -1571,7 +1572,7 @@ item-ends-enum-told-7 : (t : ℕ) → item-ends-lts.Need-enum-told-7 (
 ) (item-ends-at t) item-ends.Post
 item-ends-enum-told-7 t c = search needs
 
--- src/quick.rt:71:37
+-- src/quick.rt:99:37
 item-ends-optional-label-form-requires : (t : ℕ) → item-ends-lts.Need-optional-label-form-requires (
   take-word-reads.Asked,
   take-word-reads.Learnt,
@@ -1600,7 +1601,7 @@ item-ends-optional-label-form-requires : (t : ℕ) → item-ends-lts.Need-option
 ) (item-ends-at t) item-ends.Post
 item-ends-optional-label-form-requires t c κs = search needs
 
--- src/quick.rt:71:32
+-- src/quick.rt:99:32
 item-ends-ends-requires-7 : (t : ℕ) → item-ends-lts.Need-ends-requires-7 (
   take-word-reads.Asked,
   take-word-reads.Learnt,
@@ -1629,7 +1630,7 @@ item-ends-ends-requires-7 : (t : ℕ) → item-ends-lts.Need-ends-requires-7 (
 ) (item-ends-at t) item-ends.Post
 item-ends-ends-requires-7 t c κs = search needs
 
--- src/quick.rt:72:25
+-- src/quick.rt:100:37
 item-ends-enum-told-8 : (t : ℕ) → item-ends-lts.Need-enum-told-8 (
   take-word-reads.Asked,
   take-word-reads.Learnt,
@@ -1658,7 +1659,7 @@ item-ends-enum-told-8 : (t : ℕ) → item-ends-lts.Need-enum-told-8 (
 ) (item-ends-at t) item-ends.Post
 item-ends-enum-told-8 t c = search needs
 
--- src/quick.rt:72:25
+-- src/quick.rt:100:25
 item-ends-source-ends-requires : (t : ℕ) → item-ends-lts.Need-source-ends-requires (
   take-word-reads.Asked,
   take-word-reads.Learnt,
@@ -1687,7 +1688,7 @@ item-ends-source-ends-requires : (t : ℕ) → item-ends-lts.Need-source-ends-re
 ) (item-ends-at t) item-ends.Post
 item-ends-source-ends-requires t c κs = omega (arith, (c .before .before .before .before .pre .0))
 
--- src/quick.rt:73:26
+-- src/quick.rt:101:39
 item-ends-enum-told-9 : (t : ℕ) → item-ends-lts.Need-enum-told-9 (
   take-word-reads.Asked,
   take-word-reads.Learnt,
@@ -1716,7 +1717,7 @@ item-ends-enum-told-9 : (t : ℕ) → item-ends-lts.Need-enum-told-9 (
 ) (item-ends-at t) item-ends.Post
 item-ends-enum-told-9 t c = search needs
 
--- src/quick.rt:73:26
+-- src/quick.rt:101:26
 item-ends-element-ends-requires : (t : ℕ) → item-ends-lts.Need-element-ends-requires (
   take-word-reads.Asked,
   take-word-reads.Learnt,
@@ -1745,7 +1746,7 @@ item-ends-element-ends-requires : (t : ℕ) → item-ends-lts.Need-element-ends-
 ) (item-ends-at t) item-ends.Post
 item-ends-element-ends-requires t c κs = omega (arith, (c .before .before .before .before .pre .0))
 
--- src/quick.rt:74:29
+-- src/quick.rt:102:60
 item-ends-enum-told-10 : (t : ℕ) → item-ends-lts.Need-enum-told-10 (
   take-word-reads.Asked,
   take-word-reads.Learnt,
@@ -1774,7 +1775,7 @@ item-ends-enum-told-10 : (t : ℕ) → item-ends-lts.Need-enum-told-10 (
 ) (item-ends-at t) item-ends.Post
 item-ends-enum-told-10 t c = search needs
 
--- src/quick.rt:74:29
+-- src/quick.rt:102:29
 item-ends-datum-form-requires : (t : ℕ) → item-ends-lts.Need-datum-form-requires (
   take-word-reads.Asked,
   take-word-reads.Learnt,
@@ -1803,7 +1804,7 @@ item-ends-datum-form-requires : (t : ℕ) → item-ends-lts.Need-datum-form-requ
 ) (item-ends-at t) item-ends.Post
 item-ends-datum-form-requires t c κs = search needs
 
--- src/quick.rt:74:24
+-- src/quick.rt:102:24
 item-ends-ends-requires-8 : (t : ℕ) → item-ends-lts.Need-ends-requires-8 (
   take-word-reads.Asked,
   take-word-reads.Learnt,
@@ -1832,7 +1833,7 @@ item-ends-ends-requires-8 : (t : ℕ) → item-ends-lts.Need-ends-requires-8 (
 ) (item-ends-at t) item-ends.Post
 item-ends-ends-requires-8 t c κs = search needs
 
--- src/quick.rt:59:1
+-- src/quick.rt:74:1
 item-ends-returns : (t : ℕ) → item-ends-lts.Need-returns (
   take-word-reads.Asked,
   take-word-reads.Learnt,
@@ -1862,7 +1863,7 @@ item-ends-returns : (t : ℕ) → item-ends-lts.Need-returns (
 unfolding itemForm
 item-ends-returns t c = rw (c .enum-told .given .1) (reach-end _ _ refl)
 
--- src/quick.rt:59:1
+-- src/quick.rt:74:1
 item-ends-returns-2 : (t : ℕ) → item-ends-lts.Need-returns-2 (
   take-word-reads.Asked,
   take-word-reads.Learnt,
@@ -1892,7 +1893,7 @@ item-ends-returns-2 : (t : ℕ) → item-ends-lts.Need-returns-2 (
 unfolding itemForm
 item-ends-returns-2 t c = rw (c .before .before .before .item .given .1) (reach-same _ _ _ (c .before .take-word .ensures) (c .ends .ensures))
 
--- src/quick.rt:59:1
+-- src/quick.rt:74:1
 item-ends-returns-3 : (t : ℕ) → item-ends-lts.Need-returns-3 (
   take-word-reads.Asked,
   take-word-reads.Learnt,
@@ -1922,7 +1923,7 @@ item-ends-returns-3 : (t : ℕ) → item-ends-lts.Need-returns-3 (
 unfolding itemForm
 item-ends-returns-3 t c = rw (c .before .before .enum-told2 .given .1) (reach-same _ _ _ (c .before .range-form .ensures) (c .ends2 .ensures))
 
--- src/quick.rt:59:1
+-- src/quick.rt:74:1
 item-ends-returns-4 : (t : ℕ) → item-ends-lts.Need-returns-4 (
   take-word-reads.Asked,
   take-word-reads.Learnt,
@@ -1952,7 +1953,7 @@ item-ends-returns-4 : (t : ℕ) → item-ends-lts.Need-returns-4 (
 unfolding itemForm
 item-ends-returns-4 t c = rw (c .before .before .enum-told3 .given .1) (reach-same _ _ _ (c .before .name-form .ensures) (c .ends3 .ensures))
 
--- src/quick.rt:59:1
+-- src/quick.rt:74:1
 item-ends-returns-5 : (t : ℕ) → item-ends-lts.Need-returns-5 (
   take-word-reads.Asked,
   take-word-reads.Learnt,
@@ -1982,7 +1983,7 @@ item-ends-returns-5 : (t : ℕ) → item-ends-lts.Need-returns-5 (
 unfolding itemForm
 item-ends-returns-5 t c = rw (c .before .before .enum-told4 .given .1) (reach-same _ _ _ (c .before .optional-name-form .ensures) (c .ends4 .ensures))
 
--- src/quick.rt:59:1
+-- src/quick.rt:74:1
 item-ends-returns-6 : (t : ℕ) → item-ends-lts.Need-returns-6 (
   take-word-reads.Asked,
   take-word-reads.Learnt,
@@ -2012,7 +2013,7 @@ item-ends-returns-6 : (t : ℕ) → item-ends-lts.Need-returns-6 (
 unfolding itemForm
 item-ends-returns-6 t c = rw (c .before .before .enum-told5 .given .1) (reach-same _ _ _ (c .before .text-form .ensures) (c .ends5 .ensures))
 
--- src/quick.rt:59:1
+-- src/quick.rt:74:1
 item-ends-returns-7 : (t : ℕ) → item-ends-lts.Need-returns-7 (
   take-word-reads.Asked,
   take-word-reads.Learnt,
@@ -2042,7 +2043,7 @@ item-ends-returns-7 : (t : ℕ) → item-ends-lts.Need-returns-7 (
 unfolding itemForm
 item-ends-returns-7 t c = rw (c .before .before .item2 .given .1) (c .node-ends .ensures)
 
--- src/quick.rt:59:1
+-- src/quick.rt:74:1
 item-ends-returns-8 : (t : ℕ) → item-ends-lts.Need-returns-8 (
   take-word-reads.Asked,
   take-word-reads.Learnt,
@@ -2072,7 +2073,7 @@ item-ends-returns-8 : (t : ℕ) → item-ends-lts.Need-returns-8 (
 unfolding itemForm
 item-ends-returns-8 t c = rw (c .before .before .enum-told6 .given .1) (reach-same _ _ _ (c .before .number-form .ensures) (c .ends6 .ensures))
 
--- src/quick.rt:59:1
+-- src/quick.rt:74:1
 item-ends-returns-9 : (t : ℕ) → item-ends-lts.Need-returns-9 (
   take-word-reads.Asked,
   take-word-reads.Learnt,
@@ -2102,7 +2103,7 @@ item-ends-returns-9 : (t : ℕ) → item-ends-lts.Need-returns-9 (
 unfolding itemForm
 item-ends-returns-9 t c = rw (c .before .before .enum-told7 .given .1) (reach-same _ _ _ (c .before .optional-label-form .ensures) (c .ends7 .ensures))
 
--- src/quick.rt:59:1
+-- src/quick.rt:74:1
 item-ends-returns-10 : (t : ℕ) → item-ends-lts.Need-returns-10 (
   take-word-reads.Asked,
   take-word-reads.Learnt,
@@ -2132,7 +2133,7 @@ item-ends-returns-10 : (t : ℕ) → item-ends-lts.Need-returns-10 (
 unfolding itemForm
 item-ends-returns-10 t c = rw (c .before .enum-told8 .given .1) (c .source-ends .ensures)
 
--- src/quick.rt:59:1
+-- src/quick.rt:74:1
 item-ends-returns-11 : (t : ℕ) → item-ends-lts.Need-returns-11 (
   take-word-reads.Asked,
   take-word-reads.Learnt,
@@ -2162,7 +2163,7 @@ item-ends-returns-11 : (t : ℕ) → item-ends-lts.Need-returns-11 (
 unfolding itemForm
 item-ends-returns-11 t c = rw (c .before .enum-told9 .given .1) (c .element-ends .ensures)
 
--- src/quick.rt:59:1
+-- src/quick.rt:74:1
 item-ends-returns-12 : (t : ℕ) → item-ends-lts.Need-returns-12 (
   take-word-reads.Asked,
   take-word-reads.Learnt,
@@ -2193,12 +2194,12 @@ unfolding itemForm
 item-ends-returns-12 t c = rw (c .before .before .enum-told10 .given .1) (reach-same _ _ _ (c .before .datum-form .ensures) (c .ends8 .ensures))
 
 abbrev list-ends-Inv-loop : list-ends-lts.InvT-loop
-list-ends-Inv-loop sheet text line left a b at q p₀ n₀ p n = (p₀ ≤ p) × (repeatForm sheet text line (pairForm sheet text line (nodeForm sheet text line left) a b) n p ≡ repeatForm sheet text line (pairForm sheet text line (nodeForm sheet text line left) a b) n₀ p₀)
+list-ends-Inv-loop sheet text base len left a b at q p₀ n₀ p n = (p₀ ≤ p) × (repeatForm sheet text (lineFrom base len) (pairForm sheet text (lineFrom base len) (nodeForm sheet text (lineFrom base len) left) a b) n p ≡ repeatForm sheet text (lineFrom base len) (pairForm sheet text (lineFrom base len) (nodeForm sheet text (lineFrom base len) left) a b) n₀ p₀)
 
 abbrev list-ends-μ-loop : list-ends-lts.MeasureT-loop
-list-ends-μ-loop sheet text line left a b at q p₀ n₀ p n = n
+list-ends-μ-loop sheet text base len left a b at q p₀ n₀ p n = n
 
--- src/quick.rt:112:18
+-- src/quick.rt:142:18
 list-ends-take-word-requires : (t : ℕ) → list-ends-lts.Need-take-word-requires (
   take-word-reads.Asked,
   take-word-reads.Learnt,
@@ -2211,7 +2212,7 @@ list-ends-take-word-requires : (t : ℕ) → list-ends-lts.Need-take-word-requir
 ) (list-ends-at t) list-ends.Post list-ends-Inv-loop list-ends-μ-loop
 list-ends-take-word-requires t c κs = search needs
 
--- src/quick.rt:112:9
+-- src/quick.rt:142:9
 list-ends-ends-requires : (t : ℕ) → list-ends-lts.Need-ends-requires (
   take-word-reads.Asked,
   take-word-reads.Learnt,
@@ -2224,7 +2225,7 @@ list-ends-ends-requires : (t : ℕ) → list-ends-lts.Need-ends-requires (
 ) (list-ends-at t) list-ends.Post list-ends-Inv-loop list-ends-μ-loop
 list-ends-ends-requires t c κs = search needs
 
--- src/quick.rt:114:9
+-- src/quick.rt:144:9
 list-ends-returns : (t : ℕ) → list-ends-lts.Need-returns (
   take-word-reads.Asked,
   take-word-reads.Learnt,
@@ -2237,7 +2238,7 @@ list-ends-returns : (t : ℕ) → list-ends-lts.Need-returns (
 ) (list-ends-at t) list-ends.Post list-ends-Inv-loop list-ends-μ-loop
 list-ends-returns t c = nowhere _
 
--- src/quick.rt:117:9
+-- src/quick.rt:147:9
 list-ends-payload-at-requires : (t : ℕ) → list-ends-lts.Need-payload-at-requires (
   take-word-reads.Asked,
   take-word-reads.Learnt,
@@ -2250,7 +2251,7 @@ list-ends-payload-at-requires : (t : ℕ) → list-ends-lts.Need-payload-at-requ
 ) (list-ends-at t) list-ends.Post list-ends-Inv-loop list-ends-μ-loop
 list-ends-payload-at-requires t c κs = search needs
 
--- src/quick.rt:118:5
+-- src/quick.rt:148:5
 list-ends-loop-holds : (t : ℕ) → list-ends-lts.Need-loop-holds (
   take-word-reads.Asked,
   take-word-reads.Learnt,
@@ -2263,7 +2264,7 @@ list-ends-loop-holds : (t : ℕ) → list-ends-lts.Need-loop-holds (
 ) (list-ends-at t) list-ends.Post list-ends-Inv-loop list-ends-μ-loop
 list-ends-loop-holds t c = (omega arith, refl)
 
--- src/quick.rt:119:13
+-- src/quick.rt:149:13
 list-ends-pair-ends-requires : (t : ℕ) → list-ends-lts.Need-pair-ends-requires (
   take-word-reads.Asked,
   take-word-reads.Learnt,
@@ -2276,7 +2277,7 @@ list-ends-pair-ends-requires : (t : ℕ) → list-ends-lts.Need-pair-ends-requir
 ) (list-ends-at t) list-ends.Post list-ends-Inv-loop list-ends-μ-loop
 list-ends-pair-ends-requires t c κs = omega (arith, (c .before .before .before .before .before .before .before .before .pre .0), (c .before .loop .inv .0), reach-later (c .before .before .before .before .before .before .before .before .args .sheet .now) _ _ _ (word-ends (c .before .before .before .before .before .before .before .before .args .sheet .now) 4 16777216 (c .before .before .before .before .before .before .before .before .args .at)) (reach-same _ _ _ (c .before .before .before .before .before .take-word .ensures) (c .before .before .before .before .ends .ensures)) (c .before .before .before .if1 .left))
 
--- src/quick.rt:121:13
+-- src/quick.rt:151:13
 list-ends-returns-2 : (t : ℕ) → list-ends-lts.Need-returns-2 (
   take-word-reads.Asked,
   take-word-reads.Learnt,
@@ -2289,7 +2290,7 @@ list-ends-returns-2 : (t : ℕ) → list-ends-lts.Need-returns-2 (
 ) (list-ends-at t) list-ends.Post list-ends-Inv-loop list-ends-μ-loop
 list-ends-returns-2 t c = nowhere _
 
--- src/quick.rt:124:9
+-- src/quick.rt:154:9
 list-ends-sub-n : (t : ℕ) → list-ends-lts.Need-sub-n (
   take-word-reads.Asked,
   take-word-reads.Learnt,
@@ -2302,7 +2303,7 @@ list-ends-sub-n : (t : ℕ) → list-ends-lts.Need-sub-n (
 ) (list-ends-at t) list-ends.Post list-ends-Inv-loop list-ends-μ-loop
 list-ends-sub-n t c = search needs
 
--- src/quick.rt:118:5
+-- src/quick.rt:148:5
 list-ends-loop-less : (t : ℕ) → list-ends-lts.Need-loop-less (
   take-word-reads.Asked,
   take-word-reads.Learnt,
@@ -2315,7 +2316,7 @@ list-ends-loop-less : (t : ℕ) → list-ends-lts.Need-loop-less (
 ) (list-ends-at t) list-ends.Post list-ends-Inv-loop list-ends-μ-loop
 list-ends-loop-less t c = omega (arith, (c .before .before .loop-test .taken))
 
--- src/quick.rt:118:5
+-- src/quick.rt:148:5
 list-ends-loop-again : (t : ℕ) → list-ends-lts.Need-loop-again (
   take-word-reads.Asked,
   take-word-reads.Learnt,
@@ -2326,9 +2327,9 @@ list-ends-loop-again : (t : ℕ) → list-ends-lts.Need-loop-again (
   pair-ends-below t,
   pair-ends.Post,
 ) (list-ends-at t) list-ends.Post list-ends-Inv-loop list-ends-μ-loop
-list-ends-loop-again t c = (omega (arith, (c .before .before .before .loop .inv .0), reach-later (c .before .before .before .before .before .before .before .before .before .before .args .sheet .now) _ _ _ (pair-step (c .before .before .before .before .before .before .before .before .before .before .args .sheet .now) (c .before .before .before .before .before .before .before .before .before .before .args .text .now) (c .before .before .before .before .before .before .before .before .before .before .args .line) (nodeForm (c .before .before .before .before .before .before .before .before .before .before .args .sheet .now) (c .before .before .before .before .before .before .before .before .before .before .args .text .now) (c .before .before .before .before .before .before .before .before .before .before .args .line) (c .before .before .before .before .before .before .before .before .before .before .args .left)) (node-step (c .before .before .before .before .before .before .before .before .before .before .args .sheet .now) (c .before .before .before .before .before .before .before .before .before .before .args .text .now) (c .before .before .before .before .before .before .before .before .before .before .args .line) (c .before .before .before .before .before .before .before .before .before .before .args .left)) (c .before .before .before .before .before .before .before .before .before .before .args .a) (c .before .before .before .before .before .before .before .before .before .before .args .b) (c .before .before .before .loop .p)) (c .before .pair-ends .ensures) (c .if2 .left)), repeat-step (c .before .before .before .before .before .before .before .before .before .before .args .sheet .now) (c .before .before .before .before .before .before .before .before .before .before .args .text .now) (c .before .before .before .before .before .before .before .before .before .before .args .line) (pairForm (c .before .before .before .before .before .before .before .before .before .before .args .sheet .now) (c .before .before .before .before .before .before .before .before .before .before .args .text .now) (c .before .before .before .before .before .before .before .before .before .before .args .line) (nodeForm (c .before .before .before .before .before .before .before .before .before .before .args .sheet .now) (c .before .before .before .before .before .before .before .before .before .before .args .text .now) (c .before .before .before .before .before .before .before .before .before .before .args .line) (c .before .before .before .before .before .before .before .before .before .before .args .left)) (c .before .before .before .before .before .before .before .before .before .before .args .a) (c .before .before .before .before .before .before .before .before .before .before .args .b)) _ _ _ _ _ (c .before .before .loop-test .taken) refl ((c .before .pair-ends .ensures) (c .if2 .left)) (c .before .before .before .loop .inv .1))
+list-ends-loop-again t c = (omega (arith, (c .before .before .before .loop .inv .0), reach-later (c .before .before .before .before .before .before .before .before .before .before .args .sheet .now) _ _ _ (pair-step (c .before .before .before .before .before .before .before .before .before .before .args .sheet .now) (c .before .before .before .before .before .before .before .before .before .before .args .text .now) (lineFrom (c .before .before .before .before .before .before .before .before .before .before .args .base) (c .before .before .before .before .before .before .before .before .before .before .args .len)) (nodeForm (c .before .before .before .before .before .before .before .before .before .before .args .sheet .now) (c .before .before .before .before .before .before .before .before .before .before .args .text .now) (lineFrom (c .before .before .before .before .before .before .before .before .before .before .args .base) (c .before .before .before .before .before .before .before .before .before .before .args .len)) (c .before .before .before .before .before .before .before .before .before .before .args .left)) (node-step (c .before .before .before .before .before .before .before .before .before .before .args .sheet .now) (c .before .before .before .before .before .before .before .before .before .before .args .text .now) (lineFrom (c .before .before .before .before .before .before .before .before .before .before .args .base) (c .before .before .before .before .before .before .before .before .before .before .args .len)) (c .before .before .before .before .before .before .before .before .before .before .args .left)) (c .before .before .before .before .before .before .before .before .before .before .args .a) (c .before .before .before .before .before .before .before .before .before .before .args .b) (c .before .before .before .loop .p)) (c .before .pair-ends .ensures) (c .if2 .left)), repeat-step (c .before .before .before .before .before .before .before .before .before .before .args .sheet .now) (c .before .before .before .before .before .before .before .before .before .before .args .text .now) (lineFrom (c .before .before .before .before .before .before .before .before .before .before .args .base) (c .before .before .before .before .before .before .before .before .before .before .args .len)) (pairForm (c .before .before .before .before .before .before .before .before .before .before .args .sheet .now) (c .before .before .before .before .before .before .before .before .before .before .args .text .now) (lineFrom (c .before .before .before .before .before .before .before .before .before .before .args .base) (c .before .before .before .before .before .before .before .before .before .before .args .len)) (nodeForm (c .before .before .before .before .before .before .before .before .before .before .args .sheet .now) (c .before .before .before .before .before .before .before .before .before .before .args .text .now) (lineFrom (c .before .before .before .before .before .before .before .before .before .before .args .base) (c .before .before .before .before .before .before .before .before .before .before .args .len)) (c .before .before .before .before .before .before .before .before .before .before .args .left)) (c .before .before .before .before .before .before .before .before .before .before .args .a) (c .before .before .before .before .before .before .before .before .before .before .args .b)) _ _ _ _ _ (c .before .before .loop-test .taken) refl ((c .before .pair-ends .ensures) (c .if2 .left)) (c .before .before .before .loop .inv .1))
 
--- src/quick.rt:101:1
+-- src/quick.rt:130:1
 list-ends-returns-3 : (t : ℕ) → list-ends-lts.Need-returns-3 (
   take-word-reads.Asked,
   take-word-reads.Learnt,
@@ -2340,9 +2341,9 @@ list-ends-returns-3 : (t : ℕ) → list-ends-lts.Need-returns-3 (
   pair-ends.Post,
 ) (list-ends-at t) list-ends.Post list-ends-Inv-loop list-ends-μ-loop
 unfolding listForm
-list-ends-returns-3 t c = reach-then _ _ _ _ (reach-same _ _ _ (c .before .before .before .before .before .take-word .ensures) (c .before .before .before .before .ends .ensures)) (c .before .before .before .if1 .left) (reach-end _ _ (repeat-end (c .before .before .before .before .before .before .before .before .args .sheet .now) (c .before .before .before .before .before .before .before .before .args .text .now) (c .before .before .before .before .before .before .before .before .args .line) (pairForm (c .before .before .before .before .before .before .before .before .args .sheet .now) (c .before .before .before .before .before .before .before .before .args .text .now) (c .before .before .before .before .before .before .before .before .args .line) (nodeForm (c .before .before .before .before .before .before .before .before .args .sheet .now) (c .before .before .before .before .before .before .before .before .args .text .now) (c .before .before .before .before .before .before .before .before .args .line) (c .before .before .before .before .before .before .before .before .args .left)) (c .before .before .before .before .before .before .before .before .args .a) (c .before .before .before .before .before .before .before .before .args .b)) _ _ _ _ _ (c .loop-test .left) (c .before .loop .inv .1) (c .before .before .payload-at .ensures)))
+list-ends-returns-3 t c = reach-then _ _ _ _ (reach-same _ _ _ (c .before .before .before .before .before .take-word .ensures) (c .before .before .before .before .ends .ensures)) (c .before .before .before .if1 .left) (reach-end _ _ (repeat-end (c .before .before .before .before .before .before .before .before .args .sheet .now) (c .before .before .before .before .before .before .before .before .args .text .now) (lineFrom (c .before .before .before .before .before .before .before .before .args .base) (c .before .before .before .before .before .before .before .before .args .len)) (pairForm (c .before .before .before .before .before .before .before .before .args .sheet .now) (c .before .before .before .before .before .before .before .before .args .text .now) (lineFrom (c .before .before .before .before .before .before .before .before .args .base) (c .before .before .before .before .before .before .before .before .args .len)) (nodeForm (c .before .before .before .before .before .before .before .before .args .sheet .now) (c .before .before .before .before .before .before .before .before .args .text .now) (lineFrom (c .before .before .before .before .before .before .before .before .args .base) (c .before .before .before .before .before .before .before .before .args .len)) (c .before .before .before .before .before .before .before .before .args .left)) (c .before .before .before .before .before .before .before .before .args .a) (c .before .before .before .before .before .before .before .before .args .b)) _ _ _ _ _ (c .loop-test .left) (c .before .loop .inv .1) (c .before .before .payload-at .ensures)))
 
--- src/quick.rt:239:18
+-- src/quick.rt:295:18
 node-ends-head-form-requires : (t : ℕ) → node-ends-lts.Need-head-form-requires (
   head-form-reads.Asked,
   head-form-reads.Learnt,
@@ -2357,7 +2358,7 @@ node-ends-head-form-requires : (t : ℕ) → node-ends-lts.Need-head-form-requir
 ) (node-ends-at t) node-ends.Post
 node-ends-head-form-requires t c κs = search needs
 
--- src/quick.rt:239:9
+-- src/quick.rt:295:9
 node-ends-ends-requires : (t : ℕ) → node-ends-lts.Need-ends-requires (
   head-form-reads.Asked,
   head-form-reads.Learnt,
@@ -2372,7 +2373,7 @@ node-ends-ends-requires : (t : ℕ) → node-ends-lts.Need-ends-requires (
 ) (node-ends-at t) node-ends.Post
 node-ends-ends-requires t c κs = search needs
 
--- src/quick.rt:241:9
+-- src/quick.rt:297:9
 node-ends-returns : (t : ℕ) → node-ends-lts.Need-returns (
   head-form-reads.Asked,
   head-form-reads.Learnt,
@@ -2387,7 +2388,7 @@ node-ends-returns : (t : ℕ) → node-ends-lts.Need-returns (
 ) (node-ends-at t) node-ends.Post
 node-ends-returns t c = nowhere _
 
--- src/quick.rt:243:9
+-- src/quick.rt:299:9
 node-ends-payload-at-requires : (t : ℕ) → node-ends-lts.Need-payload-at-requires (
   head-form-reads.Asked,
   head-form-reads.Learnt,
@@ -2402,7 +2403,7 @@ node-ends-payload-at-requires : (t : ℕ) → node-ends-lts.Need-payload-at-requ
 ) (node-ends-at t) node-ends.Post
 node-ends-payload-at-requires t c κs = search needs
 
--- src/quick.rt:244:8
+-- src/quick.rt:300:8
 node-ends-is-fseek-requires : (t : ℕ) → node-ends-lts.Need-is-fseek-requires (
   head-form-reads.Asked,
   head-form-reads.Learnt,
@@ -2417,7 +2418,7 @@ node-ends-is-fseek-requires : (t : ℕ) → node-ends-lts.Need-is-fseek-requires
 ) (node-ends-at t) node-ends.Post
 node-ends-is-fseek-requires t c κs = search needs
 
--- src/quick.rt:245:9
+-- src/quick.rt:301:9
 node-ends-returns-2 : (t : ℕ) → node-ends-lts.Need-returns-2 (
   head-form-reads.Asked,
   head-form-reads.Learnt,
@@ -2432,7 +2433,7 @@ node-ends-returns-2 : (t : ℕ) → node-ends-lts.Need-returns-2 (
 ) (node-ends-at t) node-ends.Post
 node-ends-returns-2 t c = nowhere _
 
--- src/quick.rt:250:38
+-- src/quick.rt:306:47
 node-ends-sub-body-ends : (t : ℕ) → node-ends-lts.Need-sub-body-ends (
   head-form-reads.Asked,
   head-form-reads.Learnt,
@@ -2447,7 +2448,7 @@ node-ends-sub-body-ends : (t : ℕ) → node-ends-lts.Need-sub-body-ends (
 ) (node-ends-at t) node-ends.Post
 node-ends-sub-body-ends t c = search needs
 
--- src/quick.rt:250:9
+-- src/quick.rt:306:9
 node-ends-body-ends-requires : (t : ℕ) → node-ends-lts.Need-body-ends-requires (
   head-form-reads.Asked,
   head-form-reads.Learnt,
@@ -2462,7 +2463,7 @@ node-ends-body-ends-requires : (t : ℕ) → node-ends-lts.Need-body-ends-requir
 ) (node-ends-at t) node-ends.Post
 node-ends-body-ends-requires t c κs = let h = head-moves (c .before .before .before .before .before .before .before .before .before .args .sheet .now) (c .before .before .before .before .before .before .before .before .before .args .c) (c .before .before .before .before .before .before .before .before .before .args .at) _ _ refl ((reach-same _ _ _ (c .before .before .before .before .before .before .head-form .ensures) (c .before .before .before .before .before .ends .ensures)) (c .before .before .before .before .if1 .left)) in omega (arith, (c .before .before .before .before .before .before .before .before .before .pre .0), h .0, h .1)
 
--- src/quick.rt:236:1
+-- src/quick.rt:284:1
 node-ends-returns-3 : (t : ℕ) → node-ends-lts.Need-returns-3 (
   head-form-reads.Asked,
   head-form-reads.Learnt,
@@ -2477,7 +2478,7 @@ node-ends-returns-3 : (t : ℕ) → node-ends-lts.Need-returns-3 (
 ) (node-ends-at t) node-ends.Post
 node-ends-returns-3 t c = nowhere _
 
--- src/quick.rt:236:1
+-- src/quick.rt:284:1
 node-ends-returns-4 : (t : ℕ) → node-ends-lts.Need-returns-4 (
   head-form-reads.Asked,
   head-form-reads.Learnt,
@@ -2490,22 +2491,22 @@ node-ends-returns-4 : (t : ℕ) → node-ends-lts.Need-returns-4 (
   body-ends-below t,
   body-ends.Post,
 ) (node-ends-at t) node-ends.Post
-node-ends-returns-4 t c = reach-node (c .before .before .before .before .before .before .before .before .before .before .args .sheet .now) (c .before .before .before .before .before .before .before .before .before .before .args .text .now) (c .before .before .before .before .before .before .before .before .before .before .args .line) _ _ _ _ _ _ _ (reach-same _ _ _ (c .before .before .before .before .before .before .before .head-form .ensures) (c .before .before .before .before .before .before .ends .ensures)) (c .before .before .before .before .before .if1 .left) (c .before .if3 .left) (c .before .before .before .before .payload-at .ensures) (c .before .before .before .is-fseek .ensures) (c .before .before .if2 .left) (c .body-ends .ensures)
+node-ends-returns-4 t c = reach-node (c .before .before .before .before .before .before .before .before .before .before .args .sheet .now) (c .before .before .before .before .before .before .before .before .before .before .args .text .now) (lineFrom (c .before .before .before .before .before .before .before .before .before .before .args .base) (c .before .before .before .before .before .before .before .before .before .before .args .len)) _ _ _ _ _ _ _ (reach-same _ _ _ (c .before .before .before .before .before .before .before .head-form .ensures) (c .before .before .before .before .before .before .ends .ensures)) (c .before .before .before .before .before .if1 .left) (c .before .if3 .left) (c .before .before .before .before .payload-at .ensures) (c .before .before .before .is-fseek .ensures) (c .before .before .if2 .left) (c .body-ends .ensures)
 
--- src/quick.rt:90:9
+-- src/quick.rt:119:9
 pair-ends-item-ends-requires : (t : ℕ) → pair-ends-lts.Need-item-ends-requires (
   item-ends-below t,
   item-ends.Post,
 ) (pair-ends-at t) pair-ends.Post
 pair-ends-item-ends-requires t c κs = omega (arith, (c .before .before .pre .0))
 
--- src/quick.rt:92:9
+-- src/quick.rt:121:9
 pair-ends-returns :
     (t : ℕ) →
     pair-ends-lts.Need-returns (item-ends-below t, item-ends.Post) (pair-ends-at t) pair-ends.Post
 pair-ends-returns t c = nowhere _
 
--- src/quick.rt:95:26
+-- src/quick.rt:124:26
 pair-ends-enum-told :
     (t : ℕ) →
     pair-ends-lts.Need-enum-told
@@ -2514,14 +2515,14 @@ pair-ends-enum-told :
     pair-ends.Post
 pair-ends-enum-told t c = search needs
 
--- src/quick.rt:96:14
+-- src/quick.rt:125:14
 pair-ends-item-ends-requires-2 : (t : ℕ) → pair-ends-lts.Need-item-ends-requires-2 (
   item-ends-below t,
   item-ends.Post,
 ) (pair-ends-at t) pair-ends.Post
-pair-ends-item-ends-requires-2 t c κs = omega (arith, (c .before .before .before .before .before .pre .0), reach-later (c .before .before .before .before .before .args .sheet .now) _ _ _ (item-step (c .before .before .before .before .before .args .sheet .now) (c .before .before .before .before .before .args .text .now) (c .before .before .before .before .before .args .line) (nodeForm (c .before .before .before .before .before .args .sheet .now) (c .before .before .before .before .before .args .text .now) (c .before .before .before .before .before .args .line) (c .before .before .before .before .before .args .left)) (node-step (c .before .before .before .before .before .args .sheet .now) (c .before .before .before .before .before .args .text .now) (c .before .before .before .before .before .args .line) (c .before .before .before .before .before .args .left)) (c .before .before .before .before .before .args .a) (c .before .before .before .before .before .args .at)) (c .before .before .item-ends .ensures) (c .before .if1 .left))
+pair-ends-item-ends-requires-2 t c κs = omega (arith, (c .before .before .before .before .before .pre .0), reach-later (c .before .before .before .before .before .args .sheet .now) _ _ _ (item-step (c .before .before .before .before .before .args .sheet .now) (c .before .before .before .before .before .args .text .now) (lineFrom (c .before .before .before .before .before .args .base) (c .before .before .before .before .before .args .len)) (nodeForm (c .before .before .before .before .before .args .sheet .now) (c .before .before .before .before .before .args .text .now) (lineFrom (c .before .before .before .before .before .args .base) (c .before .before .before .before .before .args .len)) (c .before .before .before .before .before .args .left)) (node-step (c .before .before .before .before .before .args .sheet .now) (c .before .before .before .before .before .args .text .now) (lineFrom (c .before .before .before .before .before .args .base) (c .before .before .before .before .before .args .len)) (c .before .before .before .before .before .args .left)) (c .before .before .before .before .before .args .a) (c .before .before .before .before .before .args .at)) (c .before .before .item-ends .ensures) (c .before .if1 .left))
 
--- src/quick.rt:79:1
+-- src/quick.rt:107:1
 pair-ends-returns-2 :
     (t : ℕ) →
     pair-ends-lts.Need-returns-2
@@ -2531,7 +2532,7 @@ pair-ends-returns-2 :
 unfolding pairForm itemForm
 pair-ends-returns-2 t c = rw (c .enum-told .given .1) (reach-then _ _ _ _ (c .before .before .before .item-ends .ensures) (c .before .before .if1 .left) (reach-end _ _ refl))
 
--- src/quick.rt:79:1
+-- src/quick.rt:107:1
 pair-ends-returns-3 :
     (t : ℕ) →
     pair-ends-lts.Need-returns-3
@@ -2541,7 +2542,7 @@ pair-ends-returns-3 :
 unfolding pairForm
 pair-ends-returns-3 t c = reach-then _ _ _ _ (c .before .before .before .item-ends .ensures) (c .before .before .if1 .left) (c .item-ends2 .ensures)
 
--- src/quick.rt:31:18
+-- src/quick.rt:39:18
 source-ends-take-word-requires : (t : ℕ) → source-ends-lts.Need-take-word-requires (
   take-word-reads.Asked,
   take-word-reads.Learnt,
@@ -2556,7 +2557,7 @@ source-ends-take-word-requires : (t : ℕ) → source-ends-lts.Need-take-word-re
 ) (source-ends-at t) source-ends.Post
 source-ends-take-word-requires t c κs = search needs
 
--- src/quick.rt:31:9
+-- src/quick.rt:39:9
 source-ends-ends-requires : (t : ℕ) → source-ends-lts.Need-ends-requires (
   take-word-reads.Asked,
   take-word-reads.Learnt,
@@ -2571,7 +2572,7 @@ source-ends-ends-requires : (t : ℕ) → source-ends-lts.Need-ends-requires (
 ) (source-ends-at t) source-ends.Post
 source-ends-ends-requires t c κs = search needs
 
--- src/quick.rt:33:9
+-- src/quick.rt:41:9
 source-ends-returns : (t : ℕ) → source-ends-lts.Need-returns (
   take-word-reads.Asked,
   take-word-reads.Learnt,
@@ -2586,7 +2587,7 @@ source-ends-returns : (t : ℕ) → source-ends-lts.Need-returns (
 ) (source-ends-at t) source-ends.Post
 source-ends-returns t c = nowhere _
 
--- src/quick.rt:35:9
+-- src/quick.rt:43:9
 source-ends-payload-at-requires : (t : ℕ) → source-ends-lts.Need-payload-at-requires (
   take-word-reads.Asked,
   take-word-reads.Learnt,
@@ -2601,7 +2602,7 @@ source-ends-payload-at-requires : (t : ℕ) → source-ends-lts.Need-payload-at-
 ) (source-ends-at t) source-ends.Post
 source-ends-payload-at-requires t c κs = search needs
 
--- src/quick.rt:37:9
+-- src/quick.rt:45:9
 source-ends-returns-2 : (t : ℕ) → source-ends-lts.Need-returns-2 (
   take-word-reads.Asked,
   take-word-reads.Learnt,
@@ -2615,9 +2616,9 @@ source-ends-returns-2 : (t : ℕ) → source-ends-lts.Need-returns-2 (
   node-ends.Post,
 ) (source-ends-at t) source-ends.Post
 unfolding itemForm
-source-ends-returns-2 t c = reach-then _ _ _ _ (reach-same _ _ _ (c .before .before .before .before .take-word .ensures) (c .before .before .before .ends .ensures)) (c .before .before .if1 .left) (reach-end _ _ (source-keyboard (c .before .before .before .before .before .before .before .args .sheet .now) (c .before .before .before .before .before .before .before .args .text .now) (c .before .before .before .before .before .before .before .args .line) (nodeForm (c .before .before .before .before .before .before .before .args .sheet .now) (c .before .before .before .before .before .before .before .args .text .now) (c .before .before .before .before .before .before .before .args .line) (c .before .before .before .before .before .before .before .args .left)) _ _ _ (c .before .payload-at .ensures) (c .if2 .taken)))
+source-ends-returns-2 t c = reach-then _ _ _ _ (reach-same _ _ _ (c .before .before .before .before .take-word .ensures) (c .before .before .before .ends .ensures)) (c .before .before .if1 .left) (reach-end _ _ (source-keyboard (c .before .before .before .before .before .before .before .args .sheet .now) (c .before .before .before .before .before .before .before .args .text .now) (lineFrom (c .before .before .before .before .before .before .before .args .base) (c .before .before .before .before .before .before .before .args .len)) (nodeForm (c .before .before .before .before .before .before .before .args .sheet .now) (c .before .before .before .before .before .before .before .args .text .now) (lineFrom (c .before .before .before .before .before .before .before .args .base) (c .before .before .before .before .before .before .before .args .len)) (c .before .before .before .before .before .before .before .args .left)) _ _ _ (c .before .payload-at .ensures) (c .if2 .taken)))
 
--- src/quick.rt:40:21
+-- src/quick.rt:48:21
 source-ends-text-form-requires : (t : ℕ) → source-ends-lts.Need-text-form-requires (
   take-word-reads.Asked,
   take-word-reads.Learnt,
@@ -2632,7 +2633,7 @@ source-ends-text-form-requires : (t : ℕ) → source-ends-lts.Need-text-form-re
 ) (source-ends-at t) source-ends.Post
 source-ends-text-form-requires t c κs = search needs
 
--- src/quick.rt:40:9
+-- src/quick.rt:48:9
 source-ends-ends-requires-2 : (t : ℕ) → source-ends-lts.Need-ends-requires-2 (
   take-word-reads.Asked,
   take-word-reads.Learnt,
@@ -2647,7 +2648,7 @@ source-ends-ends-requires-2 : (t : ℕ) → source-ends-lts.Need-ends-requires-2
 ) (source-ends-at t) source-ends.Post
 source-ends-ends-requires-2 t c κs = search needs
 
--- src/quick.rt:40:9
+-- src/quick.rt:48:9
 source-ends-returns-3 : (t : ℕ) → source-ends-lts.Need-returns-3 (
   take-word-reads.Asked,
   take-word-reads.Learnt,
@@ -2661,9 +2662,9 @@ source-ends-returns-3 : (t : ℕ) → source-ends-lts.Need-returns-3 (
   node-ends.Post,
 ) (source-ends-at t) source-ends.Post
 unfolding itemForm
-source-ends-returns-3 t c = reach-then _ _ _ _ (reach-same _ _ _ (c .before .before .before .before .before .before .before .take-word .ensures) (c .before .before .before .before .before .before .ends .ensures)) (c .before .before .before .before .before .if1 .left) (reach-same _ _ _ (source-prompt (c .before .before .before .before .before .before .before .before .before .before .args .sheet .now) (c .before .before .before .before .before .before .before .before .before .before .args .text .now) (c .before .before .before .before .before .before .before .before .before .before .args .line) (nodeForm (c .before .before .before .before .before .before .before .before .before .before .args .sheet .now) (c .before .before .before .before .before .before .before .before .before .before .args .text .now) (c .before .before .before .before .before .before .before .before .before .before .args .line) (c .before .before .before .before .before .before .before .before .before .before .args .left)) _ _ _ _ (c .before .before .before .before .payload-at .ensures) (c .before .before .if3 .taken) (c .before .text-form .ensures)) (c .ends2 .ensures))
+source-ends-returns-3 t c = reach-then _ _ _ _ (reach-same _ _ _ (c .before .before .before .before .before .before .before .take-word .ensures) (c .before .before .before .before .before .before .ends .ensures)) (c .before .before .before .before .before .if1 .left) (reach-same _ _ _ (source-prompt (c .before .before .before .before .before .before .before .before .before .before .args .sheet .now) (c .before .before .before .before .before .before .before .before .before .before .args .text .now) (lineFrom (c .before .before .before .before .before .before .before .before .before .before .args .base) (c .before .before .before .before .before .before .before .before .before .before .args .len)) (nodeForm (c .before .before .before .before .before .before .before .before .before .before .args .sheet .now) (c .before .before .before .before .before .before .before .before .before .before .args .text .now) (lineFrom (c .before .before .before .before .before .before .before .before .before .before .args .base) (c .before .before .before .before .before .before .before .before .before .before .args .len)) (c .before .before .before .before .before .before .before .before .before .before .args .left)) _ _ _ _ (c .before .before .before .before .payload-at .ensures) (c .before .before .if3 .taken) (c .before .text-form .ensures)) (c .ends2 .ensures))
 
--- src/quick.rt:42:5
+-- src/quick.rt:50:5
 source-ends-node-ends-requires : (t : ℕ) → source-ends-lts.Need-node-ends-requires (
   take-word-reads.Asked,
   take-word-reads.Learnt,
@@ -2678,7 +2679,7 @@ source-ends-node-ends-requires : (t : ℕ) → source-ends-lts.Need-node-ends-re
 ) (source-ends-at t) source-ends.Post
 source-ends-node-ends-requires t c κs = omega (arith, (c .before .before .before .before .before .before .before .before .pre .0), reach-later (c .before .before .before .before .before .before .before .before .args .sheet .now) _ _ _ (word-ends (c .before .before .before .before .before .before .before .before .args .sheet .now) 7 3 (c .before .before .before .before .before .before .before .before .args .at)) (reach-same _ _ _ (c .before .before .before .before .before .take-word .ensures) (c .before .before .before .before .ends .ensures)) (c .before .before .before .if1 .left))
 
--- src/quick.rt:28:1
+-- src/quick.rt:29:1
 source-ends-returns-4 : (t : ℕ) → source-ends-lts.Need-returns-4 (
   take-word-reads.Asked,
   take-word-reads.Learnt,
@@ -2692,7 +2693,7 @@ source-ends-returns-4 : (t : ℕ) → source-ends-lts.Need-returns-4 (
   node-ends.Post,
 ) (source-ends-at t) source-ends.Post
 unfolding itemForm
-source-ends-returns-4 t c = reach-then _ _ _ _ (reach-same _ _ _ (c .before .before .before .before .before .before .take-word .ensures) (c .before .before .before .before .before .ends .ensures)) (c .before .before .before .before .if1 .left) (reach-same _ _ _ (source-file (c .before .before .before .before .before .before .before .before .before .args .sheet .now) (c .before .before .before .before .before .before .before .before .before .args .text .now) (c .before .before .before .before .before .before .before .before .before .args .line) (nodeForm (c .before .before .before .before .before .before .before .before .before .args .sheet .now) (c .before .before .before .before .before .before .before .before .before .args .text .now) (c .before .before .before .before .before .before .before .before .before .args .line) (c .before .before .before .before .before .before .before .before .before .args .left)) _ _ _ _ (c .before .before .before .payload-at .ensures) (c .before .before .if2 .left) (c .before .if3 .left) refl) (c .node-ends .ensures))
+source-ends-returns-4 t c = reach-then _ _ _ _ (reach-same _ _ _ (c .before .before .before .before .before .before .take-word .ensures) (c .before .before .before .before .before .ends .ensures)) (c .before .before .before .before .if1 .left) (reach-same _ _ _ (source-file (c .before .before .before .before .before .before .before .before .before .args .sheet .now) (c .before .before .before .before .before .before .before .before .before .args .text .now) (lineFrom (c .before .before .before .before .before .before .before .before .before .args .base) (c .before .before .before .before .before .before .before .before .before .args .len)) (nodeForm (c .before .before .before .before .before .before .before .before .before .args .sheet .now) (c .before .before .before .before .before .before .before .before .before .args .text .now) (lineFrom (c .before .before .before .before .before .before .before .before .before .args .base) (c .before .before .before .before .before .before .before .before .before .args .len)) (c .before .before .before .before .before .before .before .before .before .args .left)) _ _ _ _ (c .before .before .before .payload-at .ensures) (c .before .before .if2 .left) (c .before .if3 .left) refl) (c .node-ends .ensures))
 
 pub +body-ends+element-ends+field-ends+fields-ends+item-ends+list-ends+node-ends+pair-ends+source-ends-spec :
     {M : Type 1} → statement M

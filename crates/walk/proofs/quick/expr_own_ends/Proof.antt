@@ -12,41 +12,41 @@ use Rattle.sheet.proofs.expr.range_form.Reads as range-form-reads
 use Rattle.sheet.proofs.expr.text_form.Reads as text-form-reads
 use Rattle.walk.proofs.quick.ends.Reads as ends-reads
 
--- src/quick.rt:205:21
+-- src/quick.rt:252:21
 name-form-requires : tie.Need-name-form-requires
 name-form-requires c κs = search needs
 
--- src/quick.rt:205:9
+-- src/quick.rt:252:9
 ends-requires : tie.Need-ends-requires
 ends-requires c κs = search needs
 
--- src/quick.rt:205:9
+-- src/quick.rt:252:9
 returns : tie.Need-returns
 unfolding itemForm
 returns c = rw (c .before .before .if1 .taken) (reach-same _ _ _ (c .before .name-form .ensures) (c .ends .ensures))
 
--- src/quick.rt:208:21
+-- src/quick.rt:255:21
 text-form-requires : tie.Need-text-form-requires
 text-form-requires c κs = search needs
 
--- src/quick.rt:208:9
+-- src/quick.rt:255:9
 ends-requires-2 : tie.Need-ends-requires-2
 ends-requires-2 c κs = search needs
 
--- src/quick.rt:208:9
+-- src/quick.rt:255:9
 returns-2 : tie.Need-returns-2
 unfolding itemForm
 returns-2 c = rw (c .before .before .if2 .taken) (reach-same _ _ _ (c .before .text-form .ensures) (c .ends2 .ensures))
 
--- src/quick.rt:210:10
+-- src/quick.rt:257:10
 range-form-requires : tie.Need-range-form-requires
 range-form-requires c κs = search needs
 
--- src/quick.rt:210:5
+-- src/quick.rt:257:5
 ends-requires-3 : tie.Need-ends-requires-3
 ends-requires-3 c κs = search needs
 
--- src/quick.rt:201:1
+-- src/quick.rt:248:1
 returns-3 : tie.Need-returns-3
 unfolding itemForm
 returns-3 c = rw (sym (range-rest _ (c .before .before .before .if1 .left) (c .before .before .if2 .left))) (reach-same _ _ _ (c .before .range-form .ensures) (c .ends3 .ensures))

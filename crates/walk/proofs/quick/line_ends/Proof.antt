@@ -11,43 +11,43 @@ use Rattle.walk.proofs.quick.ends.Reads as ends-reads
 use Rattle.walk.proofs.quick.stmts_ends.Reads as stmts-ends-reads
 use Rattle.walk.proofs.stmt.line_head.Reads as line-head-reads
 
--- src/quick.rt:272:18
+-- src/quick.rt:329:18
 line-head-requires : tie.Need-line-head-requires
 line-head-requires c κs = search needs
 
--- src/quick.rt:272:9
+-- src/quick.rt:329:9
 ends-requires : tie.Need-ends-requires
 ends-requires c κs = search needs
 
--- src/quick.rt:274:9
+-- src/quick.rt:331:9
 returns : tie.Need-returns
 returns c = nowhere _
 
--- src/quick.rt:276:15
+-- src/quick.rt:333:15
 payload-at-requires : tie.Need-payload-at-requires
 payload-at-requires c κs = search needs
 
--- src/quick.rt:276:15
+-- src/quick.rt:333:15
 cast-len : tie.Need-cast-len
 cast-len c = search needs
 
--- src/quick.rt:278:18
+-- src/quick.rt:334:18
 label-form-requires : tie.Need-label-form-requires
 label-form-requires c κs = search needs
 
--- src/quick.rt:278:9
+-- src/quick.rt:334:9
 ends-requires-2 : tie.Need-ends-requires-2
 ends-requires-2 c κs = search needs
 
--- src/quick.rt:280:9
+-- src/quick.rt:336:9
 returns-2 : tie.Need-returns-2
 returns-2 c = nowhere _
 
--- src/quick.rt:282:5
+-- src/quick.rt:338:5
 stmts-ends-requires : tie.Need-stmts-ends-requires
 stmts-ends-requires c κs = search needs
 
--- src/quick.rt:269:1
+-- src/quick.rt:326:1
 returns-3 : tie.Need-returns-3
 returns-3 c = reach-line (c .before .before .before .before .before .before .before .before .before .before .args .sheet .now) (c .before .before .before .before .before .before .before .before .before .before .args .text .now) _ _ _ _ _ _ (reach-same _ _ _ (c .before .before .before .before .before .before .before .line-head .ensures) (c .before .before .before .before .before .before .ends .ensures)) (c .before .before .before .before .before .if1 .left) (c .before .before .before .before .payload-at .ensures) (reach-same _ _ _ (c .before .before .before .label-form .ensures) (c .before .before .ends2 .ensures)) (c .before .if2 .left) (c .stmts-ends .ensures)
 

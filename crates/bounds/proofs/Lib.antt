@@ -1,0 +1,6 @@
+pub mod Tally
+pub mod Grows
+pub mod GrowsProgram
+pub mod SheetWords
+pub mod SheetSize
+pub mod Suffices
