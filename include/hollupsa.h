@@ -43,8 +43,8 @@ enum {
 
    What the caller owes: each pointer is aligned for its type and good for its length, and not null even where the length is 0;
    what is written overlaps with nothing else that is lent. There is nothing else to owe: any words and units may be lent, and any
-   lengths. Lengths that suffice for every sheet of n words: 7 n for list, 8 n for notes, 4 n for book, n for work (argued in
-   crates/listing/src/main.rt, not proved). */
+   lengths. For a sheet of n words 7 n suffice for list, 8 n for notes, 4 n for book and n for work: with these none of the
+   refusals 9 to 11 comes while n is at most 49,151 (proved: crates/bounds). A longer sheet may make more than 65,535 records. */
 void hollupsa_compile(const uint32_t *sheet, size_t words, const uint16_t *text, size_t units, uint32_t *list, size_t list_words,
                       uint32_t *notes, size_t notes_words, uint32_t *book, size_t book_words, uint32_t *work, size_t work_words,
                       size_t answer[HOLLUPSA_ANSWER]);

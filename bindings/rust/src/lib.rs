@@ -60,9 +60,9 @@ pub fn compile_into(
 
 /// Compiles a sheet with its text.
 pub fn compile(sheet: &[u32], text: &[u16]) -> Result<Compiled, Refusal> {
-  // What suffices for every sheet of so many words: 3 records are at most 4
-  // words, a word makes at most two notes and one entry. A sheet that is too
-  // long is refused whatever is lent.
+  // What suffices for every sheet of so many words (crates/bounds): 3 records
+  // are at most 4 words, a word makes at most two notes and one entry. A sheet
+  // that is too long is refused whatever is lent.
   let words = sheet.len().min(65536);
   let mut list = vec![0; 7 * words];
   let mut notes = vec![0; 8 * words];

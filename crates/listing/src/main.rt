@@ -1,16 +1,7 @@
 // Document 01's program: reads the word count, the unit count, the words and the units of one input and prints its listing.
-//
-// Its buffers suffice for 2,048 words. This is argued here and not proved. Each record, note and entry is made for one part of the
-// sheet (a line, a statement, an expression, an item of a list); count against it the part's own words, without its children's.
-// - Records: three of them never exceed four words. An expression has two words or more and makes one record, and as an item of READ
-//   or WRITE one more. An element of PRINT makes three more with one more word: 4 for 3, the most there is. A statement makes at
-//   most two with its two words or more, a name of NEXT one with its word, a label of ON one with its two. End is the program
-//   word's. 4 / 3 of 2,048 are 2,730 records, 13,650 words; 2,721 are reached.
-// - Notes: at most two a word, where one word is a name that is both cut and of a wrong kind, as in NEXT. An expression's two words
-//   get at most one for its name, its text or its number, one for its kind and one as too many. 16,384 words; 4,082 are reached.
-// - Entries: at most one a word, since a name, a datum or a byte has a range word of its own. 8,192 words; 2,041 are reached.
-// - Work is as long as the sheet.
 use compiler::Answer;
+ghost use Prim.Native.Nat.{_≤_};
+ghost use lib.ListN.{length};
 
 fn call_of(head: u32) -> u32 {
     head / 16777216
@@ -107,29 +98,52 @@ fn read(words: &mut [u32], units: &mut [u16], counts: &mut [u32; 2]) -> bool {
     feed::read_units(units, counts[1])
 }
 
+// "Its buffers suffice": so many words make at most 2,730 records of five words, 4,096 notes and 2,048 entries of four.
+const WORDS: usize = 2048;
+
+const LIST: usize = 13650;
+
+const NOTES: usize = 16384;
+
+const BOOK: usize = 8192;
+
+// Compiles a form: for at most 2,048 words none of the refusals 9 to 11 comes.
+fn compile_form(
+    words: &[u32],
+    units: &[u16],
+    list: &mut [u32; LIST],
+    notes: &mut [u32; NOTES],
+    book: &mut [u32; BOOK],
+    work: &mut [u32; WORDS],
+) -> Answer
+    ensures { λ r. ⌜ (length (now (words .entry)) ≤ 2048 → r .refusal ≤ 8) ⌝ }
+{
+    compiler::compile(words, units, list, notes, book, work)
+}
+
 fn list_of(
     words: &[u32],
     units: &[u16],
     counts: &[u32; 2],
-    list: &mut [u32],
-    notes: &mut [u32],
-    book: &mut [u32],
-    work: &mut [u32],
+    list: &mut [u32; LIST],
+    notes: &mut [u32; NOTES],
+    book: &mut [u32; BOOK],
+    work: &mut [u32; WORDS],
 ) {
     let a = feed::least(counts[0], words.len());
     let b = feed::least(counts[1], units.len());
-    let r = compiler::compile(&words[..a], &units[..b], list, notes, book, work);
+    let r = compile_form(&words[..a], &units[..b], list, notes, book, work);
     show(r, list, notes);
 }
 
 fn main() {
     let mut counts = [0u32; 2];
-    let mut words = [0u32; 2048];
-    let mut units = [0u16; 2048];
-    let mut list = [0u32; 13650];
-    let mut notes = [0u32; 16384];
-    let mut book = [0u32; 8192];
-    let mut work = [0u32; 2048];
+    let mut words = [0u32; WORDS];
+    let mut units = [0u16; WORDS];
+    let mut list = [0u32; LIST];
+    let mut notes = [0u32; NOTES];
+    let mut book = [0u32; BOOK];
+    let mut work = [0u32; WORDS];
     if read(&mut words, &mut units, &mut counts) {
         list_of(
             &words,

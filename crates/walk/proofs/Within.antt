@@ -7,7 +7,7 @@ use native.Mathlib.Omega.{arith}
 use borrow.Author.Tests.{ltb-false}
 use lib.Dec.{ltb, leb}
 use lib.ListN.{length}
-use Rattle.recorder.specs.Word.{pick, payloadAt}
+use Rattle.recorder.specs.Word.{pick, either, payloadAt}
 use Rattle.sheet.specs.declared.form.Sort.{Sort}
 use Rattle.sheet.specs.declared.form.Sort.the-variants.{Stmt}
 use Rattle.sheet.specs.declared.form.Offence.{Offence}
@@ -120,19 +120,21 @@ module _ (s t : List ℕ) where
       go false false true = omega arith
       go false false false = form-place (sheetForm s t) sheet-ends
 
--- of an accepted sheet: its walk comes to an end, and work is long enough
+-- of an accepted sheet: it is not too long, its walk comes to an end, and work is long enough
 pub record Walked (s t : List ℕ) (work : ℕ) : Type 0 where
+  pub short : length s ≤ 65536
   pub end : ℕ
   pub walks : sheetForm s t ≡ Behind end
   pub enough : length s ≤ work
 
 pub walked : (s t : List ℕ) (work : ℕ) → checked s t work ≡ Accepted → Walked s t work
 unfolding checked
-walked s t work e = go (isTooLong s t) (hasSurrogate t) (ltb work (length s)) (sheetForm s t) refl refl e
+walked s t work e = go (ltb 65536 (length s)) (ltb 65536 (length t)) (hasSurrogate t) (ltb work (length s)) (sheetForm s t) refl refl refl e
   where
-    go : (a b d : Bool) (w : Walk) → ltb work (length s) ≡ d → sheetForm s t ≡ w → pick a TooLong (pick b Surrogate (pick d WorkTooShort (formChecked w))) ≡ Accepted → Walked s t work
-    go true b d w f h g = let z : _≡_ {A = ℕ} 0 1 = cc in absurd (omega arith)
-    go false true d w f h g = let z : _≡_ {A = ℕ} 0 1 = cc in absurd (omega arith)
-    go false false true w f h g = let z : _≡_ {A = ℕ} 0 1 = cc in absurd (omega arith)
-    go false false false (Behind q) f h g = record { end = q; walks = h; enough = ltb-false work (length s) f }
-    go false false false (Stops o) f h g = let z : _≡_ {A = ℕ} 0 1 = cc in absurd (omega arith)
+    go : (x y b d : Bool) (w : Walk) → ltb 65536 (length s) ≡ x → ltb work (length s) ≡ d → sheetForm s t ≡ w → pick (either x y) TooLong (pick b Surrogate (pick d WorkTooShort (formChecked w))) ≡ Accepted → Walked s t work
+    go true y b d w u f h g = let z : _≡_ {A = ℕ} 0 1 = cc in absurd (omega arith)
+    go false true b d w u f h g = let z : _≡_ {A = ℕ} 0 1 = cc in absurd (omega arith)
+    go false false true d w u f h g = let z : _≡_ {A = ℕ} 0 1 = cc in absurd (omega arith)
+    go false false false true w u f h g = let z : _≡_ {A = ℕ} 0 1 = cc in absurd (omega arith)
+    go false false false false (Behind q) u f h g = record { short = ltb-false 65536 (length s) u; end = q; walks = h; enough = ltb-false work (length s) f }
+    go false false false false (Stops o) u f h g = let z : _≡_ {A = ℕ} 0 1 = cc in absurd (omega arith)

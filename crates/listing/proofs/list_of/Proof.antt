@@ -5,59 +5,43 @@ use Rattle.listing.proofs.list_of.Statement.{statement}
 use Rattle.listing.proofs.list_of.Tie as tie
 use Rattle.listing.proofs.list_of.Reads as reads
 use Rattle.listing.proofs.list_of.Lts as lts
-use Rattle.compiler.proofs.compile.Reads as compile-reads
 use Rattle.feed.proofs.least.Reads as least-reads
+use Rattle.listing.proofs.compile_form.Reads as compile-form-reads
 use Rattle.listing.proofs.show.Reads as show-reads
 
--- src/main.rt:110:25
+-- src/main.rt:125:25
 element-copy-out-least : tie.Need-element-copy-out-least
 element-copy-out-least c = search needs
 
--- src/main.rt:110:9
+-- src/main.rt:125:9
 least-requires : tie.Need-least-requires
 least-requires c κs = search needs
 
--- src/main.rt:111:25
+-- src/main.rt:126:25
 element-copy-out-least-2 : tie.Need-element-copy-out-least-2
 element-copy-out-least-2 c = search needs
 
--- src/main.rt:111:9
+-- src/main.rt:126:9
 least-requires-2 : tie.Need-least-requires-2
 least-requires-2 c κs = search needs
 
--- src/main.rt:112:31
-slice-aggregate-compile : tie.Need-slice-aggregate-compile
-slice-aggregate-compile c = simp length-take (omega (arith, (c .before .before .before .least .ensures)))
+-- src/main.rt:127:26
+slice-aggregate-compile-form : tie.Need-slice-aggregate-compile-form
+slice-aggregate-compile-form c = simp length-take (omega (arith, (c .before .before .before .least .ensures)))
 
--- src/main.rt:112:44
-slice-aggregate-compile-2 : tie.Need-slice-aggregate-compile-2
-slice-aggregate-compile-2 c = simp length-take (omega (arith, (c .before .before .least2 .ensures)))
+-- src/main.rt:127:39
+slice-aggregate-compile-form-2 : tie.Need-slice-aggregate-compile-form-2
+slice-aggregate-compile-form-2 c = simp length-take (omega (arith, (c .before .before .least2 .ensures)))
 
--- src/main.rt:112:9
-compile-requires : tie.Need-compile-requires
-compile-requires c κs = search needs
+-- src/main.rt:127:9
+compile-form-requires : tie.Need-compile-form-requires
+compile-form-requires c κs = search needs
 
--- src/main.rt:113:5
+-- src/main.rt:128:5
 show-requires : tie.Need-show-requires
 show-requires c κs = search needs
 
--- src/main.rt:109:1
-same-length : tie.Need-same-length
-same-length c = search needs
-
--- src/main.rt:109:1
-same-length-2 : tie.Need-same-length-2
-same-length-2 c = search needs
-
--- src/main.rt:109:1
-same-length-3 : tie.Need-same-length-3
-same-length-3 c = search needs
-
--- src/main.rt:109:1
-same-length-4 : tie.Need-same-length-4
-same-length-4 c = search needs
-
--- src/main.rt:109:1
+-- src/main.rt:116:1
 returns : tie.Need-returns
 returns c = search needs
 
@@ -69,12 +53,8 @@ list-of-spec =
     least-requires
     element-copy-out-least-2
     least-requires-2
-    slice-aggregate-compile
-    slice-aggregate-compile-2
-    compile-requires
+    slice-aggregate-compile-form
+    slice-aggregate-compile-form-2
+    compile-form-requires
     show-requires
-    same-length
-    same-length-2
-    same-length-3
-    same-length-4
     returns)
