@@ -35,6 +35,13 @@ enum {
   HOLLUPSA_BOOK_SHORT = 11  /* book below four words an entry */
 };
 
+/* What the words say. A range: 0x01000000 + start * 4,096 + end, within its line.
+   A record: call (top 8 bits) and line, range, three arguments.
+   A note: class (top 8 bits) and line, range, 1 error or 2 warning, 0.
+   An entry: kind (50 name, 51 datum, 52 byte; top 8 bits) and number within it, start in the text, length, and its sigil's unit,
+   whether it is quoted, or the byte.
+   Document 01 (01-scope.md, beside the Rust sources that this is a port of) lists calls, classes and the sheet's words. */
+
 /* Compiles a sheet (32-bit words) with its text (16-bit units) into the lent list, notes, book and work; lengths are in words, of
    the text in units.
 

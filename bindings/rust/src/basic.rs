@@ -1,7 +1,7 @@
 //! Reads a form's BASIC text into a tree, for the examples and for trying
-//! forms out. It takes the common statements, written with blanks between
-//! words; the recorders' own parser takes more. What it cannot read it
-//! refuses, with the place.
+//! forms out. It takes the common statements (those that `Reader::stmt`
+//! names), written with blanks between words; the recorders' own parser takes
+//! more. What it cannot read it refuses, with the place.
 
 use crate::tree::*;
 use std::error::Error;
@@ -32,7 +32,7 @@ pub fn read(text: &str) -> Result<Program, Unread> {
   let mut lines = vec![];
   for (number, line) in text.split_inclusive('\n').enumerate() {
     let units: Vec<u16> = line.encode_utf16().collect();
-    let mut reader = Reader { units: &units, at: 0 };
+    let mut reader = Reader { units: &units, at: 0, depth: 0 };
     let line = reader.line().map_err(|(column, wanted)| Unread {
       line: number + 1,
       column: column + 1,
@@ -101,6 +101,8 @@ const PREFIXES: [(&str, UnaryOp); 3] =
 struct Reader<'a> {
   units: &'a [u16],
   at: usize,
+  /// So many parts stand around the one that is read.
+  depth: usize,
 }
 
 impl Reader<'_> {
@@ -305,7 +307,10 @@ impl Reader<'_> {
     if !matches!(var.kind, ExprKind::Ident | ExprKind::Index { .. }) {
       return Err((var.range.start, "a statement or a variable"));
     }
-    self.needs("=", "an equals sign")?;
+    if self.takes("=").is_none() {
+      let wanted = "a statement that this reader takes, or an assignment,";
+      return Err((var.range.start, wanted));
+    }
     Ok(StmtKind::Let { var, value: self.expr()? })
   }
 
@@ -377,7 +382,7 @@ impl Reader<'_> {
   /// Statements, or a label alone.
   fn branch(&mut self) -> Reading<Vec<Stmt>> {
     match self.label()? {
-      None => self.stmts(),
+      None => self.deeper(Self::stmts),
       label @ Some((range, _)) => {
         let kind = StmtKind::GoTo { keyword: false, label };
         Ok(vec![Stmt { range, kind }])
@@ -494,7 +499,21 @@ impl Reader<'_> {
   }
 
   fn expr(&mut self) -> Reading<Expr> {
-    self.binary(0)
+    self.deeper(|reader| reader.binary(0))
+  }
+
+  /// One part in another. The compiler takes 64; parentheses count here, too.
+  fn deeper<T>(
+    &mut self,
+    read: impl FnOnce(&mut Self) -> Reading<T>,
+  ) -> Reading<T> {
+    if self.depth == 64 {
+      return Err((self.at, "fewer parts in each other, at most 64,"));
+    }
+    self.depth += 1;
+    let done = read(self);
+    self.depth -= 1;
+    done
   }
 
   fn binary(&mut self, level: usize) -> Reading<Expr> {
@@ -521,7 +540,7 @@ impl Reader<'_> {
     let Some(op) = found else {
       return self.primary();
     };
-    let arg = Box::new(self.unary()?);
+    let arg = Box::new(self.deeper(Self::unary)?);
     let range = Range { start: op.0.start, end: arg.range.end };
     Ok(Expr { range, kind: ExprKind::Unary { op, arg } })
   }
@@ -557,7 +576,14 @@ impl Reader<'_> {
         self.at += 1;
         let mut inner = self.expr()?;
         self.needs(")", "a parenthesis")?;
-        inner.range = self.since(start);
+        // The range of a name, a string or a number is what it says itself.
+        let bare = matches!(
+          inner.kind,
+          ExprKind::Ident | ExprKind::StringLit | ExprKind::NumberLit(_)
+        );
+        if !bare {
+          inner.range = self.since(start);
+        }
         return Ok(inner);
       }
       c if c.is_ascii_alphabetic() => self.named()?,

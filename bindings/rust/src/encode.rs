@@ -1,6 +1,6 @@
-//! A tree as the words of a sheet. A part that does not fit its word (a line
-//! above 4,095 units, a range outside it) is cut to it; the compiler refuses
-//! such a sheet.
+//! A tree as the words of a sheet. What does not fit its word (a line above
+//! 4,095 units, a range that ends above that, an exponent) is written as a word
+//! that the compiler refuses.
 
 use crate::tree::*;
 
@@ -21,12 +21,16 @@ impl Program {
 struct Sheet(Vec<u32>);
 
 impl Sheet {
+  /// No kind takes the greatest payload, but for counts.
   fn put(&mut self, kind: u32, payload: usize) {
-    self.0.push((kind << 24) + (payload & 0xff_ffff) as u32);
+    self.0.push((kind << 24) + payload.min(0xff_ffff) as u32);
   }
 
   fn range(&mut self, range: &Range) {
-    self.put(0x01, (range.start & 0xfff) * 4096 + (range.end & 0xfff));
+    let Range { start, end } = *range;
+    // One that does not fit is written as 1 to 0, which lies in no line.
+    let fits = start <= 0xfff && end <= 0xfff;
+    self.put(0x01, if fits { start * 4096 + end } else { 4096 });
   }
 
   fn absent(&mut self) {

@@ -25,6 +25,13 @@ pub struct Answer {
   pub entries: usize,
 }
 
+impl Answer {
+  /// Why the sheet was refused; none if it was accepted.
+  pub fn refused(self) -> Option<Refusal> {
+    Refusal::new(self.refusal, self.place)
+  }
+}
+
 /// Compiles into lent buffers. Every word of all four is written.
 pub fn compile_into(
   sheet: &[u32],
@@ -35,8 +42,8 @@ pub fn compile_into(
   work: &mut [u32],
 ) -> Answer {
   let mut answer = [0_usize; 5];
-  // SAFETY: the slices are good for their lengths, and as Rust's references
-  // they do not overlap; the library asks nothing else.
+  // SAFETY: slices are aligned, never null and good for their lengths, and a
+  // `&mut` overlaps with nothing; the library asks nothing else.
   unsafe {
     library::hollupsa_compile(
       sheet.as_ptr(),
@@ -70,7 +77,7 @@ pub fn compile(sheet: &[u32], text: &[u16]) -> Result<Compiled, Refusal> {
   let mut work = vec![0; words];
   let answer =
     compile_into(sheet, text, &mut list, &mut notes, &mut book, &mut work);
-  if let Some(refusal) = Refusal::new(answer.refusal, answer.place) {
+  if let Some(refusal) = answer.refused() {
     return Err(refusal);
   }
   list.truncate(5 * answer.records);
@@ -177,7 +184,7 @@ impl fmt::Display for Refusal {
       ),
       Self::Fseek { place } => write!(
         f,
-        "word {place} is an FSEEK, which the recorders do not have: read the file from its start"
+        "word {place} is an FSEEK, which this compiler does not take: read the file from its start"
       ),
       Self::ListTooShort => write!(
         f,

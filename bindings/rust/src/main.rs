@@ -41,7 +41,7 @@ fn run(command: &str, file: &str) -> Result<(), Box<dyn Error>> {
 /// Sheet and text of a file.
 fn form(file: &str) -> Result<(Vec<u32>, Vec<u16>), Box<dyn Error>> {
   let bytes = fs::read(file)?;
-  if file.ends_with(".bas") {
+  if file.to_ascii_lowercase().ends_with(".bas") {
     let text = String::from_utf8(bytes)?;
     let sheet = basic::read(&text)?.encode();
     return Ok((sheet, text.encode_utf16().collect()));

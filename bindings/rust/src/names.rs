@@ -149,22 +149,26 @@ const MODES: [&str; 6] =
 /// The readable listing of what a sheet's text was compiled to.
 pub fn listing(sheet: &[u32], text: &[u16], compiled: &Compiled) -> String {
   let lines = line_texts(sheet, text);
-  let names: Vec<Entry> = compiled
-    .entries()
-    .filter(|entry| matches!(entry.kind, EntryKind::Name { .. }))
-    .collect();
+  let (mut names, mut data) = (vec![], vec![]);
+  for entry in compiled.entries() {
+    match entry.kind {
+      EntryKind::Name { .. } => names.push(entry),
+      EntryKind::Datum { .. } => data.push(entry),
+      EntryKind::Byte { .. } => {}
+    }
+  }
+  let book = Book { text, names, data };
   let mut out = String::new();
-  let mut shown = None;
+  // Lines that make no record are shown, too.
+  let mut shown = 0;
   for (at, record) in compiled.records().enumerate() {
-    if shown != Some(record.line) {
-      shown = Some(record.line);
-      let line = lines.get(record.line).map_or("", |line| line.trim_end());
-      writeln!(out, "{line}").unwrap();
+    while shown <= record.line && shown < lines.len() {
+      writeln!(out, "{}", lines[shown].trim_end()).unwrap();
+      shown += 1;
     }
     let call = CALLS[record.call as usize - 1];
     let line = lines.get(record.line).map_or("", String::as_str);
-    let shown = arguments(&record, line, text, &names);
-    let row = format!("{at:6}  {call} {shown}");
+    let row = format!("{at:6}  {call}{}", book.arguments(&record, line));
     writeln!(out, "{}", row.trim_end()).unwrap();
   }
   for note in compiled.notes() {
@@ -182,69 +186,88 @@ pub fn listing(sheet: &[u32], text: &[u16], compiled: &Compiled) -> String {
   out
 }
 
-fn arguments(
-  record: &Record,
-  line: &str,
-  text: &[u16],
-  names: &[Entry],
-) -> String {
-  let [a, b, c] = record.args;
-  let name = |number: u32| spelling(names, text, number);
-  let target = |address: u32| match address {
-    u32::MAX => "nowhere".to_string(),
-    _ => address.to_string(),
-  };
-  let one = |table: &[&str], i: u32| table[i as usize].to_string();
-  match record.call {
-    2 if b == 0 => one(&STATEMENTS, a),
-    2 => format!("{} of {b}", STATEMENTS[a as usize]),
-    3 => literal(record, line),
-    4 => format!("\"{}\"", piece(text, a as usize, b as usize)),
-    5 | 7 | 12 => name(a),
-    6 | 8 | 28 => format!("{} of {b}", name(a)),
-    9 => format!("{} of {}", name(a), name(b)),
-    11 => format!("{} of {b}", FUNCTIONS[a as usize]),
-    13 => one(&PREFIXES, a),
-    14 | 15 => one(&OPERATORS, a),
-    19..=21 => target(a),
-    22 | 29 | 33 => format!("of {a}"),
-    23 if b == 1 => format!("{} with step", name(a)),
-    23 => name(a),
-    24 if a == 0 => String::new(),
-    24 => name(a - 1),
-    25 => format!("from {a}, end {}", target(b)),
-    26 => format!("{} of {}, end {}", name(a), name(b), target(c)),
-    31 => format!("to datum {a}"),
-    32 if a == 1 => format!("of {b} with prompt"),
-    32 => format!("of {b}"),
-    34 => one(&MODES, a) + if b == 1 { " with length" } else { "" },
-    35 => format!("of {b} from byte {a}"),
-    44 | 45 => {
-      let place = if a == 1 { "to file" } else { "" };
-      let end = if b == 1 { "at the end" } else { "" };
-      [place, end].join(" ").trim().to_string()
+/// The text, and the entries that records cite.
+struct Book<'a> {
+  text: &'a [u16],
+  names: Vec<Entry>,
+  data: Vec<Entry>,
+}
+
+impl Book<'_> {
+  /// What is shown behind a record's call.
+  fn arguments(&self, record: &Record, line: &str) -> String {
+    let [a, b, c] = record.args;
+    let name = |number: u32| self.spelling(number);
+    let target = |address: u32| match address {
+      u32::MAX => "nowhere".to_string(),
+      _ => address.to_string(),
+    };
+    match record.call {
+      2 if b == 0 => format!(" {}", STATEMENTS[a as usize]),
+      2 => format!(" {}, {}", STATEMENTS[a as usize], many(b, "operand")),
+      3 => format!(" {}", literal(record, line)),
+      4 => format!(" \"{}\"", piece(self.text, a as usize, b as usize)),
+      5 | 7 | 12 => format!(" {}", name(a)),
+      6 | 8 | 28 => format!(" {}, {}", name(a), many(b, "subscript")),
+      9 => format!(" {}({})", name(a), name(b)),
+      11 => format!(" {}, {}", FUNCTIONS[a as usize], many(b, "argument")),
+      13 => format!(" {}", PREFIXES[a as usize]),
+      14 | 15 => format!(" {}", OPERATORS[a as usize]),
+      19 => format!(" to {}", target(a)),
+      20 | 21 => format!(" {}", target(a)),
+      22 => format!(", {}", many(a, "jump")),
+      23 if b == 1 => format!(" {} with step", name(a)),
+      23 => format!(" {}", name(a)),
+      24 if a == 0 => String::new(),
+      24 => format!(" {}", name(a - 1)),
+      25 => format!(", condition at {a}, end at {}", target(b)),
+      26 => format!(" {}({}), end at {}", name(a), name(b), target(c)),
+      29 => format!(", {}", many(a, "field")),
+      31 => format!(" to datum {a}{}", self.datum(a)),
+      32 if a == 1 => format!(", {}, with prompt", many(b, "place")),
+      32 => format!(", {}", many(b, "place")),
+      33 => format!(", {}", many(a, "place")),
+      34 if b == 1 => format!(" {} with length", MODES[a as usize]),
+      34 => format!(" {}", MODES[a as usize]),
+      35 => format!(", {} from byte {a}", many(b, "byte")),
+      44 | 45 => {
+        let place = if a == 1 { " to file" } else { "" };
+        let end = if b == 1 { " at the end" } else { "" };
+        format!("{place}{end}")
+      }
+      _ => String::new(),
     }
-    _ => String::new(),
   }
+
+  /// A name as first written, with its sigil.
+  fn spelling(&self, number: u32) -> String {
+    let Some(entry) = self.names.get(number as usize) else {
+      return format!("name {number}");
+    };
+    let mut name = piece(self.text, entry.start, entry.len);
+    if let EntryKind::Name { sigil } = entry.kind
+      && sigil != 0
+    {
+      name.extend(char::from_u32(sigil as u32));
+    }
+    name
+  }
+
+  /// A datum as written.
+  fn datum(&self, number: u32) -> String {
+    self.data.get(number as usize).map_or(String::new(), |entry| {
+      format!(" ({})", piece(self.text, entry.start, entry.len))
+    })
+  }
+}
+
+fn many(count: u32, thing: &str) -> String {
+  format!("{count} {thing}{}", if count == 1 { "" } else { "s" })
 }
 
 fn piece(text: &[u16], start: usize, len: usize) -> String {
   let piece = text.get(start..start + len).unwrap_or(&[]);
   String::from_utf16_lossy(piece)
-}
-
-/// A name as first written, with its sigil.
-fn spelling(names: &[Entry], text: &[u16], number: u32) -> String {
-  let Some(entry) = names.get(number as usize) else {
-    return format!("name {number}");
-  };
-  let mut name = piece(text, entry.start, entry.len);
-  if let EntryKind::Name { sigil } = entry.kind
-    && sigil != 0
-  {
-    name.extend(char::from_u32(sigil as u32));
-  }
-  name
 }
 
 /// A literal as written; its value where that is another, as in a delay.
@@ -264,7 +287,8 @@ fn line_texts(sheet: &[u32], text: &[u16]) -> Vec<String> {
   let mut rest = text;
   let mut lines = vec![];
   for word in sheet.iter().filter(|word| **word >> 24 == 0x10) {
-    let (line, behind) = rest.split_at((word & 0xff_ffff) as usize);
+    let len = (word & 0xff_ffff) as usize;
+    let (line, behind) = rest.split_at(len.min(rest.len()));
     lines.push(String::from_utf16_lossy(line));
     rest = behind;
   }

@@ -269,3 +269,79 @@ fn what_cannot_be_read_is_told_with_its_place() {
   let unread = basic::read("10 CLS\n20 FOR I=1\n").unwrap_err();
   assert_eq!(unread.to_string(), "line 2, column 12: put TO here");
 }
+
+/// A name or a string in parentheses is what stands in them.
+#[test]
+fn parentheses_do_not_widen_names_and_strings() {
+  for (form, bare) in
+    [("10 B=(A)", "10 B= A "), ("10 PRINT (\"X\")", "10 PRINT  \"X\" ")]
+  {
+    let records = |form: &str| -> Vec<_> {
+      let sheet = basic::read(form).unwrap().encode();
+      let compiled = compile(&sheet, &units(form)).unwrap();
+      compiled.records().map(|record| (record.call, record.args)).collect()
+    };
+    assert_eq!(records(form), records(bare), "{form}");
+  }
+}
+
+#[test]
+fn a_range_that_does_not_fit_is_refused() {
+  let stmt = Stmt { range: range(4097, 4100), kind: StmtKind::Cls };
+  let line = Line { len: 10, label: None, stmts: vec![stmt] };
+  let sheet = Program { lines: vec![line] }.encode();
+  let refused = compile(&sheet, &units("10 CLS    ")).unwrap_err();
+  assert_eq!(refused, Refusal::Range { place: 5 });
+}
+
+#[test]
+fn an_answer_says_why_it_was_refused() {
+  let answer = compile_into(
+    &SHEET,
+    &units("10 GOTO 10"),
+    &mut [1; 10],
+    &mut [],
+    &mut [],
+    &mut [1; 9],
+  );
+  assert_eq!(answer.refused(), Some(Refusal::WorkTooShort));
+}
+
+#[test]
+fn nesting_ends_at_64() {
+  let nested = |n: usize| format!("10 A={}1{}", "(".repeat(n), ")".repeat(n));
+  assert!(basic::read(&nested(63)).is_ok());
+  let refused = basic::read(&nested(64)).unwrap_err();
+  assert_eq!(refused.wanted, "fewer parts in each other, at most 64,");
+  assert!(basic::read(&nested(2000)).is_err());
+  let signs = format!("10 A={}1", "-".repeat(2000));
+  assert!(basic::read(&signs).is_err());
+}
+
+#[test]
+fn an_unknown_statement_is_told_where_it_stands() {
+  let refused = basic::read("10 STOP").unwrap_err();
+  assert_eq!((refused.line, refused.column), (1, 4));
+}
+
+/// A text that is not the sheet's still gets a listing.
+#[test]
+fn a_listing_of_another_text_ends() {
+  let text = units("10 CLS");
+  let sheet = basic::read("10 CLS").unwrap().encode();
+  let compiled = compile(&sheet, &text).unwrap();
+  assert!(names::listing(&sheet, &[], &compiled).contains("CLS"));
+}
+
+/// Lines that make no record are shown, and a RESTORE names its datum.
+#[test]
+fn a_listing_shows_every_line() {
+  let form = "10 DATA SPRUCE,FIR\n20 RESTORE 10\n30 DATA 1\n40 REM\n";
+  let text = units(form);
+  let sheet = basic::read(form).unwrap().encode();
+  let listing = names::listing(&sheet, &text, &compile(&sheet, &text).unwrap());
+  for line in form.lines() {
+    assert!(listing.lines().any(|shown| shown == line), "{line}");
+  }
+  assert!(listing.contains("restore to datum 0 (SPRUCE)"), "{listing}");
+}

@@ -7,7 +7,7 @@ use native.Mathlib.Omega.{arith}
 use lib.Dec.{ltb}
 use lib.ListN.{length}
 use Rattle.recorder.specs.Word.{pick}
-use Rattle.recorder.specs.Layout.{wordsOf, recWords, fill, noteSize, entrySize}
+use Rattle.recorder.specs.Layout.{noteSize, entrySize}
 use Rattle.sheet.specs.declared.form.Checked.{Checked}
 use Rattle.sheet.specs.declared.form.Checked.the-variants.{Accepted, TooLong, Surrogate, WorkTooShort, Offends}
 use Rattle.sheet.specs.declared.form.Offence.the-variants.{BadWord, TooDeep, BadLength, BadRange, Fseek}
@@ -16,13 +16,9 @@ use Rattle.sheet.specs.Tree.{programAt}
 use Rattle.walk.proofs.Within.{place-within}
 use Rattle.rules.specs.Outcome.{Outcome, Lengths, refused, accepted, mostRecords, finished, sized, outcomeBy, outcome}
 use Rattle.rules.specs.Missing.{Whole}
-use Rattle.rules.specs.Demand.{NoError, ExactlyOne, statementEdges}
+use Rattle.rules.specs.Demand.{NoError}
 use Rattle.rules.proofs.Third.{third}
-
--- "either the finished list, notes and book with zeros behind them, or zeros throughout beside one of document 01's eleven refusals"
-pub data Ended (s t : List ℕ) (L : Lengths) : Outcome → Type 0 where
-  whole : Ended s t L (accepted (finished s t) L)
-  none : (k p : ℕ) → 1 ≤ k → k ≤ 11 → p ≤ length s → Ended s t L (refused k p L)
+use Rattle.compiler.specs.Demanded.{Ended, whole, none, Piled}
 
 ended-pick : (s t : List ℕ) (L : Lengths) (b : Bool) (x y : Outcome) → Ended s t L x → Ended s t L y → Ended s t L (pick b x y)
 ended-pick s t L true x y a c = a
@@ -55,12 +51,6 @@ first s t L = ended-by s t L (checked s t (L .work)) (place-within s t (L .work)
 accepted-whole : (s t : List ℕ) (L : Lengths) (o : Outcome) → Ended s t L o → o .answer .refusal ≡ 0 → o ≡ accepted (finished s t) L
 accepted-whole s t L o whole e = refl
 accepted-whole s t L o (none k p a b c) e = absurd (omega arith)
-
--- the list that is left, and its piles
-pub record Piled (s t : List ℕ) (L : Lengths) : Type 0 where
-  pub words : outcome s t L .list ≡ fill (L .list) (wordsOf recWords (finished s t .records))
-  pub count : outcome s t L .answer .records ≡ length (finished s t .records)
-  pub piles : ExactlyOne (statementEdges s t) (finished s t .entries) (finished s t .records)
 
 -- THEOREM: the third demand, of the list in the lent memory
 pub third-of-list : (s t : List ℕ) (L : Lengths) → outcome s t L .answer .refusal ≡ 0 → Whole (programAt s) → NoError (finished s t .notes) → Piled s t L

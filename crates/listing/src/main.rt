@@ -1,29 +1,16 @@
 // Document 01's program: reads the word count, the unit count, the words and the units of one input and prints its listing.
 use compiler::Answer;
+ghost use mathlib.Core.Path.{_≡_};
 ghost use Prim.Native.Nat.{_≤_};
 ghost use lib.ListN.{length};
-
-fn call_of(head: u32) -> u32 {
-    head / 16777216
-}
-
-fn line_of(head: u32) -> u32 {
-    head % 16777216
-}
-
-fn start_of(range: u32) -> u32 {
-    range % 16777216 / 4096
-}
-
-fn end_of(range: u32) -> u32 {
-    range % 4096
-}
+ghost use Rattle.rules.specs.Outcome.{lengths, outcome};
+ghost use Rattle.compiler.specs.Answered.{outcomeOf};
 
 // A record a line: address, line, call, three arguments.
 fn print_record(at: u32, head: u32, a: u32, b: u32, c: u32) -> bool {
     feed::print_number(at);
-    feed::print_next(line_of(head));
-    feed::print_next(call_of(head));
+    feed::print_next(recorder::word::payload_of(head));
+    feed::print_next(recorder::word::kind_of(head));
     feed::print_next(a);
     feed::print_next(b);
     feed::print_next(c);
@@ -32,11 +19,12 @@ fn print_record(at: u32, head: u32, a: u32, b: u32, c: u32) -> bool {
 
 // A note a line: "note", class, line, start, end.
 fn print_note(head: u32, range: u32) -> bool {
+    let r = recorder::word::range_of(range);
     feed::print(b"note");
-    feed::print_next(call_of(head));
-    feed::print_next(line_of(head));
-    feed::print_next(start_of(range));
-    feed::print_next(end_of(range));
+    feed::print_next(recorder::word::kind_of(head));
+    feed::print_next(recorder::word::payload_of(head));
+    feed::print_next(r.start as u32);
+    feed::print_next(r.end as u32);
     feed::print(b"\n")
 }
 
@@ -116,7 +104,7 @@ fn compile_form(
     book: &mut [u32; BOOK],
     work: &mut [u32; WORDS],
 ) -> Answer
-    ensures { λ r. ⌜ (length (now (words .entry)) ≤ 2048 → r .refusal ≤ 8) ⌝ }
+    ensures { λ r. ⌜ (outcomeOf r (now (list .exit)) (now (notes .exit)) (now (book .exit)) (now (work .exit)) ≡ outcome (now (words .entry)) (now (units .entry)) (lengths (length (now (list .entry))) (length (now (notes .entry))) (length (now (book .entry))) (length (now (work .entry))))) × (length (now (words .entry)) ≤ 2048 → r .refusal ≤ 8) ⌝ }
 {
     compiler::compile(words, units, list, notes, book, work)
 }

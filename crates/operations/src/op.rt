@@ -1,4 +1,4 @@
-// Statements that make one record behind their operands.
+// Statements of operands alone, with one record behind them; WHILE; and SYSTEM, which makes a note.
 use expressions::expr::Went;
 use recorder::codegen::St;
 use recorder::word::Range;
@@ -162,7 +162,7 @@ pub fn compile_fread_fwrite(
     Went { st: s, at: z.at }
 }
 
-// The condition is compiled again at each turn, so the loop's start is before it.
+// The condition is run again at each turn, so the loop's start is before it.
 pub fn compile_while(
     sheet: &[u32],
     text: &[u16],

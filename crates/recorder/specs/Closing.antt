@@ -18,14 +18,16 @@ isWend r = isOp 62 r
 abbrev pub isWhile : Rec → Bool
 isWhile r = eqb (r .call) 25
 
--- "A WHILE's end is one past the first later place where WENDs since it outnumber WHILEs since it by one".
--- The records from the address k on, where `more` more WHILEs than WENDs were passed since it.
+-- a record behind a WHILE, where `more` more WHILEs than WENDs were passed since: whether it closes that WHILE, and how many more
+-- were passed with it
 abbrev pub closes : Rec → ℕ → Bool
 closes r more = both (isWend r) (eqb more 0)
 
 abbrev pub opened : Rec → ℕ → ℕ
 opened r more = pick (isWhile r) (suc more) (pick (isWend r) (more - 1) more)
 
+-- "A WHILE's end is one past the first later place where WENDs since it outnumber WHILEs since it by one", in the records from the
+-- address k on
 unfoldable pub endFrom : List Rec → ℕ → ℕ → Search
 endFrom [] more k = missing
 endFrom (r ∷ rs) more k = choose (closes r more) found (endFrom rs (opened r more)) (suc k)
@@ -68,10 +70,10 @@ isFor step r = both (eqb (r .call) 23) (eqb (r .b) step)
 abbrev pub isNextOf : Rec → Rec → Bool
 isNextOf f r = both (eqb (r .call) 24) (either (eqb (r .a) 0) (eqb (r .a) (f .a + 1)))
 
--- the four records of a delay without step, or the five of one with step, from the address k on
 abbrev pub recAt : List Rec → ℕ → Rec
 recAt rs k = getD rs k noRec
 
+-- the four records of a delay without step, or the five of one with step, from the address k on
 abbrev pub isDelay : List Rec → ℕ → Bool
 isDelay rs k = both (isStart (recAt rs k)) (both (isEnd (recAt rs (k + 1))) (both (isFor 0 (recAt rs (k + 2))) (isNextOf (recAt rs (k + 2)) (recAt rs (k + 3)))))
 
@@ -98,7 +100,8 @@ normal e m = pick (ltb m 4294967296) (value e m) (value (e + 1) (m / 2))
 unfoldable pub roundUp : ℕ → ℕ → Value
 roundUp e m = pick (ltb e 129) (value 129 2147483648) (pick (ltb e 160) (normal e (upTo m (2 ^ (160 - e)))) (value e m))
 
--- "It becomes no-op, end, (no-op), SLEEP, no-op. SLEEP is call 2 with 65, 1, 0; the no-ops have zeros. Line and range words stay."
+-- "It becomes no-op, end, (no-op), SLEEP, no-op ... SLEEP is call 2 with 65, 1, 0; the no-ops have zeros. Line and range words
+-- stay."
 abbrev pub noOp : Rec → Rec
 noOp r = rec 1 (r .line) (r .range) 0 0 0
 

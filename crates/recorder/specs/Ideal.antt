@@ -9,7 +9,7 @@ use Rattle.recorder.specs.Word.{pick}
 use Rattle.recorder.specs.Name.{sameName}
 use Rattle.recorder.specs.Recorder.{Recorder, Named, Look}
 
--- "Each numbered call below appends one record of five words: call number with the line index from 0, range word, three
+-- "Each numbered call below appends one record of five words: call number ... with the line index from 0, range word, three
 -- arguments (0 where unused)."
 pub record Rec : Type 0 where
   pub call : ℕ
@@ -22,7 +22,7 @@ pub record Rec : Type 0 where
 abbrev pub rec : ℕ → ℕ → Range → ℕ → ℕ → ℕ → Rec
 rec k l r x y z = record { call = k; line = l; range = r; a = x; b = y; c = z }
 
--- "Notes: class and line, range, 1 error or 2 warning, 0."
+-- "Notes: class ... and line, range, 1 error or 2 warning, 0."
 pub record Note : Type 0 where
   pub class : ℕ
   pub line : ℕ
@@ -32,7 +32,7 @@ pub record Note : Type 0 where
 abbrev pub noteOf : ℕ → ℕ → Range → ℕ → Note
 noteOf k l r v = record { class = k; line = l; range = r; severity = v }
 
--- "Book entries in order of making (head: kind and number within it, which calls cite; start; length; extra)"
+-- "Book entries in order of making (head: kind ... and number within it, which calls cite; start; length; extra)"
 pub record Entry : Type 0 where
   pub kind : ℕ
   pub number : ℕ
@@ -64,18 +64,19 @@ pub record Ideal : Type 0 where
 abbrev pub ideal : List Rec → List Note → List Entry → ℕ → ℕ → Ideal
 ideal r n b l d = record { records = r; notes = n; entries = b; line = l; firstDatum = d }
 
--- the number that the next entry of a kind gets: what the low 24 bits of its head hold
+-- the entries of a kind
 unfoldable pub howMany : ℕ → List Entry → ℕ
 howMany k [] = zero
 howMany k (e ∷ es) = pick (eqb (e .kind) k) (suc (howMany k es)) (howMany k es)
 
+-- the number that the next entry of a kind gets: what the low 24 bits of its head hold
 abbrev pub nextNumber : ℕ → List Entry → ℕ
 nextNumber k es = howMany k es % 16777216
 
 abbrev pub added : ℕ → List Entry → ℕ → ℕ → ℕ → List Entry
 added k es s l x = es ++ (entry k (nextNumber k es) s l x ∷ [])
 
--- the first entry that is this name
+-- whether an entry is this name
 abbrev pub isNamed : List ℕ → Entry → ℕ → ℕ → ℕ → Bool
 isNamed t e s l x = pick (eqb (e .kind) nameKind) (sameName t (e .start) (e .length) (e .extra) s l x) false
 
@@ -83,6 +84,7 @@ pub data Search : Type 0 where
   missing : Search
   found : ℕ → Search
 
+-- the first entry that is this name
 unfoldable pub findName : List ℕ → List Entry → ℕ → ℕ → ℕ → Search
 findName t [] s l x = missing
 findName t (e ∷ es) s l x = pick (isNamed t e s l x) (found (e .number)) (findName t es s l x)

@@ -13,7 +13,7 @@ recWords r = wordOf (r .call) (r .line) ∷ rangeWord (r .range) ∷ r .a ∷ r 
 abbrev pub noteWords : Note → List ℕ
 noteWords n = wordOf (n .class) (n .line) ∷ rangeWord (n .range) ∷ n .severity ∷ 0 ∷ []
 
--- "head: kind, top 8 bits, and number within it; start; length; extra"
+-- "head: kind, top 8 bits, and number within it ...; start; length; extra"
 abbrev pub entryWords : Entry → List ℕ
 entryWords e = wordOf (e .kind) (e .number) ∷ e .start ∷ e .length ∷ e .extra ∷ []
 

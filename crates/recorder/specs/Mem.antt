@@ -89,8 +89,9 @@ entryList b s h x y z = pick (ltb (s .entries) (length b / 4)) (four b (s .entri
 unfoldable pub entrySt : List ℕ → St → St
 entrySt b s = pick (ltb (s .entries) (length b / 4)) (withEntries s (s .entries + 1) (s .bfull)) (withEntries s (s .entries) true)
 
--- While compiling, the names of the book are a tree. A name's last word has a code of its sigil in its low 2 bits, and above
--- it, 15 bits each, two entries of later names, 0 for none. A name's units say which of the two leads on to it. Entries
+-- While compiling, the names of the book are a binary tree, gone through by the bits of a hash of the name. A name's last word has
+-- a code of its sigil in its low 2 bits, and above it, 15 bits each, the entries of its two children, later names, 0 for none.
+-- The way to a name is the entries that the bits of its hash, its turns, lead through. Entries
 -- from 32,768 on are in no tree. Closing up leaves the sigil alone in the word.
 abbrev pub sigilCode : ℕ → ℕ
 sigilCode g = pick (eqb g 36) 1 (pick (eqb g 37) 2 0)
@@ -120,7 +121,7 @@ unfoldable pub lookup : List ℕ → List ℕ → ℕ → ℕ → ℕ → ℕ �
 lookup t b x n g k zero = k
 lookup t b x n g k (suc left) = pick (namedAt t b k x n g) k (lookup t b x n g (k + 1) left)
 
--- a number of 32 bits from a name's units in upper case, that tells its way: its highest bit the first turn
+-- the hash: a number of 32 bits from a name's units in upper case, its highest bit the first turn
 abbrev pub mix : ℕ → ℕ → ℕ
 mix h u = (h + u) * 2654435769 % 4294967296
 

@@ -54,6 +54,6 @@ pack r = r .start * 65536 + r .end
 abbrev pub unpack : ℕ → Range
 unpack c = record { start = c / 65536; end = c % 65536 }
 
--- "A target not yet known is all ones"
+-- "A target ... not yet known is all ones"
 abbrev pub unknown : ℕ
 unknown = 4294967295

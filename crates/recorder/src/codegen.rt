@@ -43,7 +43,7 @@ pub struct Named {
     pub number: u32,
 }
 
-// On the way to a name: an entry of the tree, and the turns that are left, the next one in the highest bit.
+// On the way to a name: an entry of the tree, and the bits of the name's hash that are left, the next one the highest.
 pub struct Way {
     pub at: usize,
     pub turns: u32,
@@ -460,7 +460,7 @@ fn mix(h: u32, u: u16) -> u32
     ((h as u64 + u as u64) * 2654435769 % 4294967296) as u32
 }
 
-// The turns of a name's way, from its units in upper case.
+// The turns of a name's way: a hash of its units in upper case.
 fn turns_of(text: &[u16], at: u32, first: u32, n: u32) -> u32
     ensures { λ r. ⌜ r ≡ turnsOf (now (text .entry)) at first n ⌝ }
 {

@@ -26,8 +26,8 @@ nameLength t at (suc n) = pick (endsName (getD t at 0)) zero (suc (nameLength t 
 abbrev pub sigilCount : ℕ → ℕ
 sigilCount u = pick (ltb 0 u) 1 0
 
--- "cut at the first blank, kind from the last unit, sigil kept"; what is left out stands from the first blank up to the
--- sigil or the end. The line's units begin at `base`.
+-- A name is cut at its first blank, its kind is told by its last unit, and its sigil is kept; what is left out stands from the
+-- first blank up to the sigil or the end. The line's units begin at `base`.
 abbrev pub nameOf : List ℕ → ℕ → ℕ → Ty → Name
 nameOf t at n ty = record {
   start = at;

@@ -39,7 +39,7 @@ pub record Lengths : Type 0 where
 abbrev pub lengths : ℕ → ℕ → ℕ → ℕ → Lengths
 lengths l n b w = record { list = l; notes = n; book = b; work = w }
 
--- "A refusal brings its number, the offending word's index for 4 to 8, zero counts, and zeros in all four buffers."
+-- "A refusal brings its number, the offending word's index for 4 to 8 ..., zero counts, and zeros in all four buffers."
 abbrev pub refused : ℕ → ℕ → Lengths → Outcome
 refused k p L = record {
   answer = record { refusal = k; place = p; records = 0; notes = 0; entries = 0 };
@@ -49,7 +49,7 @@ refused k p L = record {
   work = replicate (L .work) 0;
 }
 
--- "Answer 0 brings the numbers of records, notes and book entries; unused words and all of work are zero."
+-- "Answer 0 ... brings the numbers of records, notes and book entries; unused words and all of work are zero."
 abbrev pub accepted : Ideal → Lengths → Outcome
 accepted i L = record {
   answer = record { refusal = 0; place = 0; records = length (i .records); notes = length (i .notes); entries = length (i .entries) };

@@ -80,7 +80,7 @@ isIdent (index r n es) = false
 isIdent (inkey r) = false
 isIdent (error r) = false
 
--- "a DATA ... datum": its place in the text
+-- a datum: its place in the text
 abbrev pub datumStart : ℕ → Datum → ℕ
 datumStart base d = pick (eqb (d .quoted) 1) (quotedStart base (d .range)) (textPlace base (d .range .start))
 

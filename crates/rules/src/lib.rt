@@ -1,4 +1,4 @@
-// The leaves of the compiler: the kinds of values, and the reading of a name. Its specs/ hold document 01's rules.
+// The leaves of the compiler: the kinds of values, the reading of a name, and what functions and statements want. Its specs/ hold document 01's rules.
 pub mod name;
 pub mod tables;
 pub mod types;

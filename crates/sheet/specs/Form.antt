@@ -145,7 +145,7 @@ module _ (s t : List ℕ) where
     itemForm child element at = then (takeWord s 8 3 at) (λ p. elementRest child (payloadAt s at) p)
     itemForm child datum at = datumForm s line at
 
-    -- "An option is absent or its value, a list a count and its items"
+    -- one item and another
     unfoldable pub pairForm : (Sort → ℕ → Walk) → Item → Item → ℕ → Walk
     pairForm child a b at = then (itemForm child a at) (λ p. itemForm child b p)
 
@@ -156,6 +156,7 @@ module _ (s t : List ℕ) where
     unfoldable pub listForm : (ℕ → Walk) → ℕ → Walk
     listForm f at = then (countForm s at) (λ p. repeatForm f (payloadAt s at) p)
 
+    -- "An option is absent or its value, a list a count and its items"
     unfoldable pub timesForm : Times → (ℕ → Walk) → ℕ → Walk
     timesForm Once f at = f at
     timesForm Optional f at = choose (isAbsent s at) (absentForm s) f at

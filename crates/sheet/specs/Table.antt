@@ -47,7 +47,7 @@ inputPlace = Node InputPlace
 abbrev pub stmt : Item
 stmt = Node Stmt
 
--- an item once; absent or the item; a count and so many; a count of at least one (NonEmptyVec); absent or such a list
+-- an item once; absent or the item; a count and so many; a count of at least one (NonEmptyVec); absent, or a count and so many
 abbrev pub one : Item → Field
 one a = record { times = Once; first = a; second = Nothing }
 
@@ -203,14 +203,14 @@ shapeFields System = []
 shapeFields While = one expr ∷ []
 shapeFields Write = optional expr ∷ nonEmpty₂ expr flag ∷ []
 
--- "20 statement: payload the place of its case in StmtKind, from 0. 21 expression: the place in ExprKind"
+-- "20 statement: payload the place of its case in StmtKind, from 0 ... 21 expression: the place in ExprKind"
 abbrev pub nodeKind : Sort → ℕ
 nodeKind Expr = 33
 nodeKind Place = 33
 nodeKind InputPlace = 33
 nodeKind Stmt = 32
 
--- which cases may stand there: "Assigned places are Ident, Index or Error; INPUT also takes UserFuncCall."
+-- which cases may stand there: "Assigned places ... are Ident, Index or Error; INPUT also takes UserFuncCall."
 abbrev pub mayStand : Sort → ℕ → Bool
 mayStand Expr k = ltb k 10
 mayStand Place k = either (eqb k 0) (either (eqb k 7) (eqb k 9))

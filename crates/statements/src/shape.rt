@@ -4,7 +4,8 @@ ghost use Prim.Native.Nat.{_<_};
 ghost use Rattle.sheet.specs.Tree.{shapeOf};
 ghost use Rattle.statements.specs.Shapes.{shapeBy};
 
-// By the place in StmtKind: the place of its shape in Shape.
+// By the place in StmtKind: the place of its shape in Shape. A number and not the shape itself, because plain.rt goes by groups
+// of eight: a `match` of 31 arms that lend three buffers takes the prover minutes.
 pub fn shape_of(k: u32) -> u8
     ensures { λ r. ⌜ (shapeBy r ≡ shapeOf k) × (r < 31) ⌝ }
 {

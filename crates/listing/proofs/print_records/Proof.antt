@@ -14,83 +14,83 @@ Inv-loop list count at₀ k₀ at k = at ≤ length list
 abbrev μ-loop : tie.MeasureT-loop
 μ-loop list count at₀ k₀ at k = count - k
 
--- src/main.rt:54:5
+-- src/main.rt:34:5
 loop-holds : tie.Need-loop-holds Inv-loop μ-loop
 loop-holds c = omega arith
 
--- src/main.rt:55:12
+-- src/main.rt:35:12
 sub-if1 : tie.Need-sub-if1 Inv-loop μ-loop
 sub-if1 c = search needs
 
--- src/main.rt:56:13
+-- src/main.rt:36:13
 returns : tie.Need-returns Inv-loop μ-loop
 returns c = search needs
 
--- src/main.rt:58:25
+-- src/main.rt:38:25
 mul-print-record : tie.Need-mul-print-record Inv-loop μ-loop
 mul-print-record c = search needs
 
--- src/main.rt:58:25
+-- src/main.rt:38:25
 shared-slice-read-print-record : tie.Need-shared-slice-read-print-record Inv-loop μ-loop
 shared-slice-read-print-record c = search needs
 
--- src/main.rt:58:40
+-- src/main.rt:38:40
 add-print-record : tie.Need-add-print-record Inv-loop μ-loop
 add-print-record c = search needs
 
--- src/main.rt:58:35
+-- src/main.rt:38:35
 mul-print-record-2 : tie.Need-mul-print-record-2 Inv-loop μ-loop
 mul-print-record-2 c = search needs
 
--- src/main.rt:58:35
+-- src/main.rt:38:35
 shared-slice-read-print-record-2 : tie.Need-shared-slice-read-print-record-2 Inv-loop μ-loop
 shared-slice-read-print-record-2 c = search needs
 
--- src/main.rt:58:54
+-- src/main.rt:38:54
 add-print-record-2 : tie.Need-add-print-record-2 Inv-loop μ-loop
 add-print-record-2 c = search needs
 
--- src/main.rt:58:49
+-- src/main.rt:38:49
 mul-print-record-3 : tie.Need-mul-print-record-3 Inv-loop μ-loop
 mul-print-record-3 c = search needs
 
--- src/main.rt:58:49
+-- src/main.rt:38:49
 shared-slice-read-print-record-3 : tie.Need-shared-slice-read-print-record-3 Inv-loop μ-loop
 shared-slice-read-print-record-3 c = search needs
 
--- src/main.rt:58:68
+-- src/main.rt:38:68
 add-print-record-3 : tie.Need-add-print-record-3 Inv-loop μ-loop
 add-print-record-3 c = search needs
 
--- src/main.rt:58:63
+-- src/main.rt:38:63
 mul-print-record-4 : tie.Need-mul-print-record-4 Inv-loop μ-loop
 mul-print-record-4 c = search needs
 
--- src/main.rt:58:63
+-- src/main.rt:38:63
 shared-slice-read-print-record-4 : tie.Need-shared-slice-read-print-record-4 Inv-loop μ-loop
 shared-slice-read-print-record-4 c = search needs
 
--- src/main.rt:58:9
+-- src/main.rt:38:9
 print-record-requires : tie.Need-print-record-requires Inv-loop μ-loop
 print-record-requires c κs = search needs
 
--- src/main.rt:59:9
+-- src/main.rt:39:9
 add-at : tie.Need-add-at Inv-loop μ-loop
 add-at c = search needs
 
--- src/main.rt:60:9
+-- src/main.rt:40:9
 add-k : tie.Need-add-k Inv-loop μ-loop
 add-k c = search needs
 
--- src/main.rt:54:5
+-- src/main.rt:34:5
 loop-less : tie.Need-loop-less Inv-loop μ-loop
 loop-less c = omega arith
 
--- src/main.rt:54:5
+-- src/main.rt:34:5
 loop-again : tie.Need-loop-again Inv-loop μ-loop
 loop-again c = omega arith
 
--- src/main.rt:51:1
+-- src/main.rt:31:1
 returns-2 : tie.Need-returns-2 Inv-loop μ-loop
 returns-2 c = search needs
 
