@@ -1,6 +1,6 @@
 -- A program's words bound its records, notes and book entries, closed up too. Closing up adds at most one note for each jump or
 -- RESTORE that waits for its label and for each WHILE: such a record counts as a note from the beginning.
-use mathlib.Core.Path.{_≡_, refl, sym, ap, _∙_}
+use mathlib.Core.Path.{_≡_, refl, sym}
 use mathlib.Core.List.{List, [], _∷_, _++_}
 use mathlib.Core.Bool.{Bool, true, false}
 use Prim.Native.Nat.{ℕ, zero, suc, _+_, _*_, _-_, _≤_}

@@ -6,15 +6,14 @@ use Prim.Native.Nat.{ℕ, zero, suc, _+_, _≤_}
 use native.Mathlib.Omega.{arith}
 use lib.Dec.{ltb, leb}
 use lib.ListN.{length}
-use Rattle.recorder.specs.Word.{pick, choose, payloadAt, next, rangeAt}
+use Rattle.recorder.specs.Word.{choose, payloadAt, next, rangeAt}
 use Rattle.recorder.specs.declared.word.Range.{Range}
 use Rattle.sheet.specs.declared.form.Item.the-variants.{Element as element}
 use Rattle.sheet.specs.declared.form.Sort.{Sort}
 use Rattle.sheet.specs.declared.form.Sort.the-variants.{Expr, Place, InputPlace, Stmt}
 use Rattle.sheet.specs.declared.form.Shape.{Shape}
 use Rattle.sheet.specs.declared.form.Shape.the-variants.{Rem, NoOp, Op0, Run, Op1, Op2, Op3, Draw, Set, Data, Def, Dim, Field as Fields, For, GoSub, GoTo, If, Input, Let, Load, Locate, Next, On, Open, Print, Read, Restore, Swap, System, While, Write}
-use Rattle.sheet.specs.declared.form.Walk.{Walk}
-use Rattle.sheet.specs.declared.form.Walk.the-variants.{Behind, Stops}
+use Rattle.sheet.specs.declared.form.Walk.the-variants.{Behind}
 use Rattle.sheet.specs.declared.form.Line.{Line}
 use Rattle.sheet.specs.declared.form.Checked.the-variants.{Accepted}
 use Rattle.sheet.specs.Table.{exprFields, shapeFields}
@@ -128,7 +127,7 @@ module _ (s : List ℕ) where
     stmt-fits Op3 k r p = omega (arith, below Expr p, below Expr (skip Expr p), below Expr (skip Expr (skip Expr p)))
     stmt-fits Draw k r p = omega (arith, listed Expr (below Expr) p)
     stmt-fits Set k r p = omega (arith, below Place p, below Expr (skip Place p))
-    stmt-fits Data k r p = omega (arith, pairs-fit (Tree.datumAt s left stmtHere) (payloadAt s p) (next s p))
+    stmt-fits Data k r p = omega (arith, pairs-fit (Tree.datumAt s) (payloadAt s p) (next s p))
     stmt-fits Def k r p = omega (arith, below Expr (next s (next s p)))
     stmt-fits Dim k r p = omega (arith, listed Expr (below Expr) p)
     stmt-fits Fields k r p =
@@ -136,7 +135,7 @@ module _ (s : List ℕ) where
         omega (
           arith,
           below Expr p,
-          items-fit Size.specsWords (λ f. Size.exprWords (f .len) + Size.exprWords (f .var)) refl (λ f fs. refl) (Tree.fieldSpecAt s left stmtHere)
+          items-fit Size.specsWords (λ f. Size.exprWords (f .len) + Size.exprWords (f .var)) refl (λ f fs. refl) (Tree.fieldSpecAt s left)
               (λ m. words Expr m + words Place (skip Expr m)) (λ m. skip Place (skip Expr m)) (λ m. omega (arith, below Expr m, below Place (skip Expr m))) (payloadAt s q) (next s q),
         )
     stmt-fits For k r p = omega (arith, below Expr (next s p), below Expr (skip Expr (next s p)), optional-fits (skip Expr (skip Expr (next s p))))
@@ -157,11 +156,11 @@ module _ (s : List ℕ) where
     stmt-fits Load k r p = omega (arith, listed Expr (below Expr) p)
     stmt-fits Locate k r p = omega (arith, optional-fits p, optional-fits (choose (Form.isAbsent s p) (next s) (skip Expr) p))
     stmt-fits Next k r p = omega (arith, items-fit Size.ones (λ x. 1) refl (λ x xs. refl) (Tree.optAt s (rangeAt s)) (λ q. 1) (next s) (λ q. omega arith) (payloadAt s p) (next s p))
-    stmt-fits On k r p = omega (arith, below Expr p, pairs-fit (Tree.onTargetAt s left stmtHere) (payloadAt s (skip Expr p)) (next s (skip Expr p)))
+    stmt-fits On k r p = omega (arith, below Expr p, pairs-fit (Tree.onTargetAt s) (payloadAt s (skip Expr p)) (next s (skip Expr p)))
     stmt-fits Open k r p =
         let q = next s (skip Expr p) in
         let m = skip Expr q in
-        omega (arith, below Expr p, below Expr q, opt-fits Size.optLen (Tree.lenAt s left stmtHere) (λ u. 1 + words Expr (next s u)) m (omega arith) (omega (arith, below Expr (next s m))))
+        omega (arith, below Expr p, below Expr q, opt-fits Size.optLen (Tree.lenAt s left) (λ u. 1 + words Expr (next s u)) m (omega arith) (omega (arith, below Expr (next s m))))
     stmt-fits Print k r p =
         omega (
           arith,
@@ -178,7 +177,7 @@ module _ (s : List ℕ) where
         omega (
           arith,
           optional-fits p,
-          items-fit Size.writtenWords (λ d. Size.exprWords (d .datum) + 1) refl (λ d ds. refl) (Tree.writeElementAt s left stmtHere)
+          items-fit Size.writtenWords (λ d. Size.exprWords (d .datum) + 1) refl (λ d ds. refl) (Tree.writeElementAt s left)
               (λ u. words Expr u + 1) (λ u. next s (skip Expr u)) (λ u. omega (arith, below Expr u)) (payloadAt s q) (next s q),
         )
 

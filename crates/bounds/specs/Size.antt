@@ -2,8 +2,7 @@
 -- A statement that the tree holds without its fields (REM and its like, RUN) counts its first two words.
 use mathlib.Core.List.{List, [], _∷_}
 use Prim.Native.Nat.{ℕ, _+_}
-use Rattle.recorder.specs.declared.word.Range.{Range}
-use Rattle.sheet.specs.Tree.{Opt, absent, given, Expr, ident, stringLit, numberLit, sysFuncCall, userFuncCall, binary, unary, index, inkey, error, Exprs, none, more, Datum, FieldSpec, Target, OnTarget, Len, WriteElement, PrintElement, value, comma, semicolon, InputSource, keyboard, file, Stmt, rem, op₀, op₁, op₂, op₃, draw, set, dataList, def, dim, field, for, go, ifThen, ifElse, input, assign, load, locate, next-of, on, open-file, print, read, restore, swap, system, while, write, Stmts, end, then, Labelled, ProgramLine}
+use Rattle.sheet.specs.Tree.{Opt, absent, given, Expr, ident, stringLit, numberLit, sysFuncCall, userFuncCall, binary, unary, index, inkey, error, Exprs, none, more, FieldSpec, Target, Len, WriteElement, PrintElement, value, comma, semicolon, InputSource, keyboard, file, Stmt, rem, op₀, op₁, op₂, op₃, draw, set, dataList, def, dim, field, for, go, ifThen, ifElse, input, assign, load, locate, next-of, on, open-file, print, read, restore, swap, system, while, write, Stmts, end, then, Labelled, ProgramLine}
 
 -- 21, the range, and what each case has besides
 unfoldable mutual

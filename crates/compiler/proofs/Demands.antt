@@ -14,7 +14,7 @@ use Rattle.sheet.specs.declared.form.Offence.the-variants.{BadWord, TooDeep, Ba
 use Rattle.sheet.specs.Check.{checked, refusalPlace}
 use Rattle.sheet.specs.Tree.{programAt}
 use Rattle.walk.proofs.Within.{place-within}
-use Rattle.rules.specs.Outcome.{Outcome, Lengths, refused, accepted, mostRecords, finished, sized, outcomeBy, outcome}
+use Rattle.rules.specs.Outcome.{Outcome, Lengths, accepted, mostRecords, finished, sized, outcomeBy, outcome}
 use Rattle.rules.specs.Missing.{Whole}
 use Rattle.rules.specs.Demand.{NoError}
 use Rattle.rules.proofs.Third.{third}

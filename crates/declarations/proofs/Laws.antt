@@ -10,7 +10,7 @@ use Rattle.recorder.specs.Word.{payloadAt, rangeAt, next}
 use Rattle.recorder.specs.Mem.{Mem, mem, memR, onRec, setC, datumList, datumSt}
 use Rattle.sheet.specs.declared.form.Shape.the-variants.{Data, Def}
 use Rattle.sheet.specs.Skip.{skipRepeat, skipList, skipFields, skipField, skipTimes, skipPair, skipItem}
-use Rattle.sheet.specs.Tree.{given, itemsAt, optAt, stmtNode}
+use Rattle.sheet.specs.Tree.{given, itemsAt, optAt, stmtNode, datumAt}
 use Rattle.rules.specs.declared.types.«Type».the-variants.{Real}
 use Rattle.rules.specs.Expr.{funcName}
 use Rattle.rules.specs.Stmt.{compileStmt, compileDef, datumStart, datumLength, datumNode, compileData}
@@ -20,7 +20,7 @@ use Rattle.nodes.specs.Done.{named, optOf, CompiledTyped, CountAt}
 use Rattle.expressions.specs.Body.{Body}
 use Rattle.expressions.specs.Lists.{twoOn}
 use Rattle.expressions.proofs.Lists.{items-step, repeat-step}
-use Rattle.declarations.specs.Parts.{Defined, datumOf, datumHere, DataDone}
+use Rattle.declarations.specs.Parts.{Defined, datumOf, DataDone}
 
 -- DEF
 pub def-nameless : (s t : List ℕ) (base left at x y : ℕ) (o a : OptRange) (r : Range) (p : ℕ) (m m1 : Mem) → o ≡ Absent → CompiledTyped s t base left at Real m m1 p
@@ -67,20 +67,20 @@ unfolding datumNode
 datum-fits t base q r n a m m1 e f p h = rw (← e, ← f, le-ltb _ _ h, p)
 
 data-more : (t : List ℕ) (base : ℕ) (s : List ℕ) (n at : ℕ) (m : Mem) → 0 < n
-    → compileData (memR t) t base (itemsAt s (datumHere s) (twoOn s) n at) m ≡ compileData (memR t) t base (itemsAt s (datumHere s) (twoOn s) (n - 1) (twoOn s at)) (datumNode (memR t) t base (datumHere s at) m)
+    → compileData (memR t) t base (itemsAt s (datumAt s) (twoOn s) n at) m ≡ compileData (memR t) t base (itemsAt s (datumAt s) (twoOn s) (n - 1) (twoOn s at)) (datumNode (memR t) t base (datumAt s at) m)
 unfolding compileData
-data-more t base s n at m h = rw (items-step s (datumHere s) (twoOn s) n at h)
+data-more t base s n at m h = rw (items-step s (datumAt s) (twoOn s) n at h)
 
 pub step-data : (s t : List ℕ) (base n at : ℕ) (r : Range) (q f p : ℕ) (m m1 : Mem) → 0 < n → r ≡ rangeAt s at → q ≡ next s at → f ≡ payloadAt s q → p ≡ next s q
     → m1 ≡ datumNode (memR t) t base (datumOf r f) m
-    → compileData (memR t) t base (itemsAt s (datumHere s) (twoOn s) (n - 1) p) m1 ≡ compileData (memR t) t base (itemsAt s (datumHere s) (twoOn s) n at) m
+    → compileData (memR t) t base (itemsAt s (datumAt s) (twoOn s) (n - 1) p) m1 ≡ compileData (memR t) t base (itemsAt s (datumAt s) (twoOn s) n at) m
 step-data s t base n at r q f p m m1 h hr hq hf hp e = rw (data-more t base s n at m h, ← hq, ← hp, ← hf, ← hr, ← e)
 
 pub step-two : (s : List ℕ) (n at q p : ℕ) → 0 < n → q ≡ next s at → p ≡ next s q → skipRepeat s (twoOn s) (n - 1) p ≡ skipRepeat s (twoOn s) n at
 step-two s n at q p h hq hp = rw (repeat-step s (twoOn s) n at h, ← hq, ← hp)
 
 pub data-done : (s t : List ℕ) (base n k at at₀ : ℕ) (m m₀ : Mem) → n ≤ 0 → skipRepeat s (twoOn s) n at ≡ skipRepeat s (twoOn s) k at₀
-    → compileData (memR t) t base (itemsAt s (datumHere s) (twoOn s) n at) m ≡ compileData (memR t) t base (itemsAt s (datumHere s) (twoOn s) k at₀) m₀ → DataDone s t base at₀ k m₀ m at
+    → compileData (memR t) t base (itemsAt s (datumAt s) (twoOn s) n at) m ≡ compileData (memR t) t base (itemsAt s (datumAt s) (twoOn s) k at₀) m₀ → DataDone s t base at₀ k m₀ m at
 unfolding itemsAt compileData skipRepeat
 data-done s t base zero k at at₀ m m₀ h p q = record { place = p; result = q }
 data-done s t base (suc n) k at at₀ m m₀ h p q = absurd (omega arith)

@@ -11,7 +11,7 @@ use Rattle.sheet.specs.declared.form.Sort.the-variants.{Expr as exprSort, Place
 use Rattle.sheet.specs.declared.form.Shape.the-variants.{Dim, Field}
 use Rattle.sheet.specs.Table.{exprFields}
 use Rattle.sheet.specs.Skip.{skipNode, skipRepeat, skipList, skipFields, skipField, skipTimes, skipPair, skipItem}
-use Rattle.sheet.specs.Tree.{Expr, count, exprAt, exprNode, exprsAt, itemsAt, optAt, stmtNode}
+use Rattle.sheet.specs.Tree.{Expr, count, exprAt, exprNode, exprsAt, itemsAt, optAt, stmtNode, fieldSpecAt}
 use Rattle.rules.specs.declared.types.«Type».{«Type» as Ty}
 use Rattle.rules.specs.declared.types.«Type».the-variants.{Real, String}
 use Rattle.rules.specs.declared.tables.Wants.the-variants.{Every}
@@ -23,7 +23,7 @@ use Rattle.nodes.specs.Done.{sym, optOf, CompiledArgs, CompiledTyped, PlaceType
 use Rattle.expressions.specs.Body.{Body}
 use Rattle.expressions.proofs.Lists.{exprs-step, items-step, repeat-step, items-length, place-same, repeat-same, items-same}
 use Rattle.expressions.proofs.ExprLaws.{Head, node, over, how-many}
-use Rattle.declarations.specs.Parts.{Dimmed, DimDone, pairOn, fieldHere, FieldsDone}
+use Rattle.declarations.specs.Parts.{Dimmed, DimDone, pairOn, FieldsDone}
 
 pub plain-head : (s : List ℕ) (left at k q p : ℕ) → (left ≡ 0 → ⊥) → k ≡ payloadAt s at → q ≡ next s at → p ≡ next s q → Head s left at k (rangeAt s (next s at)) p
 plain-head s left at k q p d hk hq hp = record { deep = d; kind = hk; range = refl; behind = rw (← hq) hp }
@@ -92,15 +92,15 @@ unfolding stmtNode compileStmt skipFields skipField skipTimes skipPair skipItem 
 at-dim s t base left k at r n p q m m1 c d = record { place = rw (← c .place, ← c .count) (d .place); result = λ child. rw (← c .place, ← c .count) (d .result) }
 
 -- FIELD
-fields-more : (s t : List ℕ) (base left n at : ℕ) (m : Mem) → 0 < n → compileFields (memR t) t base (itemsAt s (fieldHere s left) (pairOn s left) n at) m
-    ≡ compileFields (memR t) t base (itemsAt s (fieldHere s left) (pairOn s left) (n - 1) (pairOn s left at))
+fields-more : (s t : List ℕ) (base left n at : ℕ) (m : Mem) → 0 < n → compileFields (memR t) t base (itemsAt s (fieldSpecAt s left) (pairOn s left) n at) m
+    ≡ compileFields (memR t) t base (itemsAt s (fieldSpecAt s left) (pairOn s left) (n - 1) (pairOn s left at))
     (placeTyped (memR t) t base String (exprAt s left (skipNode s left exprSort at)) (compileTyped (memR t) t base Real (exprAt s left at) m))
 unfolding compileFields
-fields-more s t base left n at m h = rw (items-step s (fieldHere s left) (pairOn s left) n at h)
+fields-more s t base left n at m h = rw (items-step s (fieldSpecAt s left) (pairOn s left) n at h)
 
 pub step-field : (s t : List ℕ) (base left n at q p : ℕ) (m m1 m2 : Mem) → 0 < n → CompiledTyped s t base left at Real m m1 q → PlaceTyped s t base left q String m1 m2 p
-    → compileFields (memR t) t base (itemsAt s (fieldHere s left) (pairOn s left) (n - 1) p) m2
-    ≡ compileFields (memR t) t base (itemsAt s (fieldHere s left) (pairOn s left) n at) m
+    → compileFields (memR t) t base (itemsAt s (fieldSpecAt s left) (pairOn s left) (n - 1) p) m2
+    ≡ compileFields (memR t) t base (itemsAt s (fieldSpecAt s left) (pairOn s left) n at) m
 step-field s t base left n at q p m m1 m2 h x y = rw (fields-more s t base left n at m h, ← x .place, ← y .place, ← x .result, ← y .result)
 
 pub step-pair : (s : List ℕ) (left n at q p : ℕ) → 0 < n → q ≡ skipNode s left exprSort at → p ≡ skipNode s left exprSort q
@@ -108,7 +108,7 @@ pub step-pair : (s : List ℕ) (left n at q p : ℕ) → 0 < n → q ≡ skipNod
 step-pair s left n at q p h hq hp = rw (repeat-step s (pairOn s left) n at h, ← hq, ← hp)
 
 pub fields-done : (s t : List ℕ) (base left n k at at₀ : ℕ) (m m₀ : Mem) → n ≤ 0 → skipRepeat s (pairOn s left) n at ≡ skipRepeat s (pairOn s left) k at₀
-    → compileFields (memR t) t base (itemsAt s (fieldHere s left) (pairOn s left) n at) m ≡ compileFields (memR t) t base (itemsAt s (fieldHere s left) (pairOn s left) k at₀) m₀
+    → compileFields (memR t) t base (itemsAt s (fieldSpecAt s left) (pairOn s left) n at) m ≡ compileFields (memR t) t base (itemsAt s (fieldSpecAt s left) (pairOn s left) k at₀) m₀
     → FieldsDone s t base left at₀ k m₀ m at
 unfolding itemsAt compileFields skipRepeat
 fields-done s t base left zero k at at₀ m m₀ h p q = record { place = p; result = q }
@@ -120,9 +120,9 @@ unfolding stmtNode compileStmt compileField skipFields skipField skipTimes skipP
 at-field s t base left k at r p n q q1 q2 m m1 m2 m3 hp c d x e =
     let places : skipRepeat s (λ z. skipNode s left placeSort (skipNode s left exprSort z)) n q ≡ skipRepeat s (pairOn s left) n q =
     repeat-same s (λ z. skipNode s left placeSort (skipNode s left exprSort z)) (pairOn s left) (λ z. place-same s left (skipNode s left exprSort z)) n q in
-    let specs : itemsAt s (fieldHere s left) (λ z. skipNode s left placeSort (skipNode s left exprSort z)) n q ≡ itemsAt s (fieldHere s left) (pairOn s left) n q =
-    items-same s (fieldHere s left) (λ z. skipNode s left placeSort (skipNode s left exprSort z)) (pairOn s left) (λ z. place-same s left (skipNode s left exprSort z)) n q in
-    let count-is : length (itemsAt s (fieldHere s left) (pairOn s left) n q) ≡ n = items-length s (fieldHere s left) (pairOn s left) n q in
+    let specs : itemsAt s (fieldSpecAt s left) (λ z. skipNode s left placeSort (skipNode s left exprSort z)) n q ≡ itemsAt s (fieldSpecAt s left) (pairOn s left) n q =
+    items-same s (fieldSpecAt s left) (λ z. skipNode s left placeSort (skipNode s left exprSort z)) (pairOn s left) (λ z. place-same s left (skipNode s left exprSort z)) n q in
+    let count-is : length (itemsAt s (fieldSpecAt s left) (pairOn s left) n q) ≡ n = items-length s (fieldSpecAt s left) (pairOn s left) n q in
     record {
       place = rw (← hp, ← c .place, ← c .count, places) (d .place);
       result = λ child. rw (← hp, ← c .place, ← c .count, specs, count-is, ← d .result, ← x .result) e;

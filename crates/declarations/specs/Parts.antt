@@ -3,11 +3,10 @@ use mathlib.Core.Path.{_≡_}
 use mathlib.Core.List.{List}
 use Prim.Native.Nat.{ℕ}
 use Rattle.recorder.specs.declared.word.Range.{Range}
-use Rattle.recorder.specs.Word.{payloadAt, rangeAt, next}
 use Rattle.recorder.specs.Mem.{Mem, memR}
 use Rattle.sheet.specs.declared.form.Sort.the-variants.{Expr as exprSort}
 use Rattle.sheet.specs.Skip.{skipNode, skipRepeat}
-use Rattle.sheet.specs.Tree.{Opt, Datum, FieldSpec, exprAt, exprsAt, itemsAt}
+use Rattle.sheet.specs.Tree.{Opt, Datum, exprAt, exprsAt, itemsAt, datumAt, fieldSpecAt}
 use Rattle.rules.specs.Stmt.{defNode, compileData, dimOne, compileDim, compileFields}
 use Rattle.expressions.specs.Lists.{twoOn}
 
@@ -20,12 +19,9 @@ pub record Defined (s t : List ℕ) (base left at : ℕ) (n a : Opt Range) (r : 
 abbrev pub datumOf : Range → ℕ → Datum
 datumOf r q = record { range = r; quoted = q }
 
-abbrev pub datumHere : List ℕ → ℕ → Datum
-datumHere s at = datumOf (rangeAt s at) (payloadAt s (next s at))
-
 pub record DataDone (s t : List ℕ) (base at n : ℕ) (m m′ : Mem) (p : ℕ) : Type 0 where
   pub place : p ≡ skipRepeat s (twoOn s) n at
-  pub result : m′ ≡ compileData (memR t) t base (itemsAt s (datumHere s) (twoOn s) n at) m
+  pub result : m′ ≡ compileData (memR t) t base (itemsAt s (datumAt s) (twoOn s) n at) m
 
 -- an array of DIM, or any other expression, at a place; n of them from a place on
 pub record Dimmed (s t : List ℕ) (base left at : ℕ) (m m′ : Mem) (p : ℕ) : Type 0 where
@@ -40,9 +36,6 @@ pub record DimDone (s t : List ℕ) (base left at n : ℕ) (m m′ : Mem) (p : �
 abbrev pub pairOn : List ℕ → ℕ → ℕ → ℕ
 pairOn s left at = skipNode s left exprSort (skipNode s left exprSort at)
 
-abbrev pub fieldHere : List ℕ → ℕ → ℕ → FieldSpec
-fieldHere s left at = record { len = exprAt s left at; var = exprAt s left (skipNode s left exprSort at) }
-
 pub record FieldsDone (s t : List ℕ) (base left at n : ℕ) (m m′ : Mem) (p : ℕ) : Type 0 where
   pub place : p ≡ skipRepeat s (pairOn s left) n at
-  pub result : m′ ≡ compileFields (memR t) t base (itemsAt s (fieldHere s left) (pairOn s left) n at) m
+  pub result : m′ ≡ compileFields (memR t) t base (itemsAt s (fieldSpecAt s left) (pairOn s left) n at) m

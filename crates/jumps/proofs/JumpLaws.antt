@@ -12,7 +12,7 @@ use Rattle.recorder.specs.Recorder.{pack}
 use Rattle.recorder.specs.Mem.{Mem, memR}
 use Rattle.sheet.specs.declared.form.Shape.the-variants.{GoSub, GoTo, Restore, On}
 use Rattle.sheet.specs.Skip.{skipRepeat, skipList, skipFields, skipField, skipTimes, skipPair, skipItem}
-use Rattle.sheet.specs.Tree.{OnTarget, itemsAt, stmtNode, optAt, targetAt, behindLabel}
+use Rattle.sheet.specs.Tree.{OnTarget, itemsAt, stmtNode, optAt, targetAt, behindLabel, onTargetAt}
 use Rattle.rules.specs.declared.types.«Type».the-variants.{Real}
 use Rattle.rules.specs.Stmt.{waitingJump, compileGo, compileRestore, labelOr0, onJumps, compileOn, compileStmt}
 use Rattle.nodes.specs.Done.{CompiledTyped, CountAt}
@@ -23,7 +23,7 @@ use Rattle.jumps.specs.declared.jump.OptTarget.{OptTarget}
 use Rattle.jumps.specs.declared.jump.OptTarget.the-variants.{Given as givenTarget, Absent as absentTarget}
 use Rattle.jumps.specs.declared.jump.OptLabel.{OptLabel}
 use Rattle.jumps.specs.declared.jump.OptLabel.the-variants.{Given as givenLabel, Absent as absentLabel}
-use Rattle.jumps.specs.Parts.{targetOf, labelOf, onTarget, onTargets}
+use Rattle.jumps.specs.Parts.{targetOf, labelOf, onTargets}
 
 -- options
 pub target-absent : (s : List ℕ) (at k : ℕ) → k ≡ kindAt s at → k ≡ 2 → targetOf absentTarget ≡ optAt s (targetAt s) at
@@ -108,7 +108,7 @@ pub jumps-step : (s t : List ℕ) (base sub n at q q1 : ℕ) (r : Range) (o : Op
     → m1 ≡ waitingJump (memR t) t base sub r (labelOr0 (labelOf o)) r m → q1 ≡ next s q
     → onJumps (memR t) t base sub (onTargets s (n - 1) q1) m1 ≡ onJumps (memR t) t base sub (onTargets s n at) m
 jumps-step s t base sub n at q q1 r o m m1 h hr hq ho e hq1 =
-    rw (items-step s (onTarget s) (twoOn s) n at h, jumps-more, e, ho, hr, hq1, hq)
+    rw (items-step s (onTargetAt s) (twoOn s) n at h, jumps-more, e, ho, hr, hq1, hq)
 
 pub jumps-done : (s t : List ℕ) (base sub n k at at₀ : ℕ) (m m₀ : Mem) → n ≤ 0 → onJumps (memR t) t base sub (onTargets s n at) m ≡ onJumps (memR t) t base sub (onTargets s k at₀) m₀
     → m ≡ onJumps (memR t) t base sub (onTargets s k at₀) m₀
@@ -129,7 +129,7 @@ pub on-of : (s t : List ℕ) (base left k : ℕ) (r : Range) (p q n q1 z sub q2 
     → Body s t base left On k r p m m3 q2
 unfolding stmtNode compileStmt compileOn skipFields skipField skipTimes skipPair skipItem skipList
 on-of s t base left k r p q n q1 z sub q2 m m1 m2 m3 x c hz hs e f hq =
-    let many : length (onTargets s n q1) ≡ n = items-length s (onTarget s) (twoOn s) n q1 in
+    let many : length (onTargets s n q1) ≡ n = items-length s (onTargetAt s) (twoOn s) n q1 in
     record {
       place = rw (← x .place, ← c .place, ← c .count) (hq ∙ ap (next s) hz);
       result = λ child. rw (← x .place, ← c .place, ← c .count, many, ← hz, ← hs, f, e, x .result);

@@ -1,8 +1,7 @@
 -- The contracts' shapes for jumps: options of targets and labels, ON's targets.
 use mathlib.Core.List.{List}
 use Prim.Native.Nat.{ℕ}
-use Rattle.recorder.specs.Word.{next, rangeAt, labelAt}
-use Rattle.sheet.specs.Tree.{Opt, absent, given, Target, OnTarget, itemsAt, optAt}
+use Rattle.sheet.specs.Tree.{Opt, absent, given, Target, OnTarget, itemsAt, onTargetAt}
 use Rattle.expressions.specs.Lists.{twoOn}
 use Rattle.jumps.specs.declared.jump.OptTarget.{OptTarget}
 use Rattle.jumps.specs.declared.jump.OptTarget.the-variants.{Given as givenTarget, Absent as absentTarget}
@@ -18,9 +17,6 @@ abbrev pub labelOf : OptLabel → Opt ℕ
 labelOf (givenLabel l) = given (l .0)
 labelOf absentLabel = absent
 
--- the targets of an ON: two words each
-abbrev pub onTarget : List ℕ → ℕ → OnTarget
-onTarget s at = record { range = rangeAt s at; label = optAt s (labelAt s) (next s at) }
-
+-- n targets of an ON from a place on
 abbrev pub onTargets : List ℕ → ℕ → ℕ → List OnTarget
-onTargets s n at = itemsAt s (onTarget s) (twoOn s) n at
+onTargets s n at = itemsAt s (onTargetAt s) (twoOn s) n at

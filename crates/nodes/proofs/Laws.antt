@@ -156,12 +156,12 @@ pub not-tab : (t : List ℕ) (base k : ℕ) (fr : Range) (m : Mem) → (k ≡ 27
 not-tab t base k fr m a b = simp (ne-eqb _ _ a, ne-eqb _ _ b)
 
 pub too-few : (t : List ℕ) (base k n x : ℕ) (r : Range) (g : Sig) (m m1 : Mem) → signatureFor g ≡ signatureOf k → x ≡ signatureFor g .min → n < x → m1 ≡ memR t .note m 6 r 1
-    → m1 ≡ arityNotes (memR t) t base k (signatureOf k) n r m
+    → m1 ≡ arityNotes (memR t) t base (signatureOf k) n r m
 unfolding arityNotes
 too-few t base k n x r g m m1 e f h p = let q : n < signatureOf k .min = rw (← e, ← f) h in rw (lt-ltb _ _ q, p)
 
 pub too-many : (t : List ℕ) (base k n x y : ℕ) (r : Range) (g : Sig) (m m1 : Mem) → signatureFor g ≡ signatureOf k → x ≡ signatureFor g .min → x ≤ n → y ≡ length (signatureFor g .args) → y < n
-    → m1 ≡ memR t .note m 7 r 1 → m1 ≡ arityNotes (memR t) t base k (signatureOf k) n r m
+    → m1 ≡ memR t .note m 7 r 1 → m1 ≡ arityNotes (memR t) t base (signatureOf k) n r m
 unfolding arityNotes
 too-many t base k n x y r g m m1 e f h f′ h′ p =
     let q : signatureOf k .min ≤ n = rw (← e, ← f) h in
@@ -169,14 +169,14 @@ too-many t base k n x y r g m m1 e f h f′ h′ p =
     rw (le-ltb _ _ q, lt-ltb _ _ q′, p)
 
 pub just-right : (t : List ℕ) (base k n x y : ℕ) (r : Range) (g : Sig) (m : Mem) → signatureFor g ≡ signatureOf k → x ≡ signatureFor g .min → x ≤ n → y ≡ length (signatureFor g .args) → n ≤ y
-    → m ≡ arityNotes (memR t) t base k (signatureOf k) n r m
+    → m ≡ arityNotes (memR t) t base (signatureOf k) n r m
 unfolding arityNotes
 just-right t base k n x y r g m e f h f′ h′ =
     let q : signatureOf k .min ≤ n = rw (← e, ← f) h in
     let q′ : n ≤ length (signatureOf k .args) = rw (← e, ← f′) h′ in
     rw (le-ltb _ _ q, le-ltb _ _ q′)
 
-pub func-noted : (t : List ℕ) (base k n : ℕ) (fr r : Range) (m m1 m2 : Mem) → m1 ≡ tabNote (memR t) t base k fr m → m2 ≡ arityNotes (memR t) t base k (signatureOf k) n r m1
+pub func-noted : (t : List ℕ) (base k n : ℕ) (fr r : Range) (m m1 m2 : Mem) → m1 ≡ tabNote (memR t) t base k fr m → m2 ≡ arityNotes (memR t) t base (signatureOf k) n r m1
     → m2 ≡ funcNotes (memR t) t base k n fr r m
 unfolding funcNotes
 func-noted t base k n fr r m m1 m2 p q = rw (q, p)

@@ -248,7 +248,7 @@ fn tab_note(notes: &mut [u32], st: St, k: u32, fr: Range) -> St
 
 // Too few arguments, or too many.
 fn arity_notes(notes: &mut [u32], st: St, k: u32, n: u32, r: Range) -> St
-    ensures { λ x. ⌜ ((t l b : List ℕ) (base : ℕ) → mem l (now (notes .exit)) b x ≡ arityNotes (memR t) t base k (signatureOf k) n r (mem l (now (notes .entry)) b st)) ⌝ }
+    ensures { λ x. ⌜ ((t l b : List ℕ) (base : ℕ) → mem l (now (notes .exit)) b x ≡ arityNotes (memR t) t base (signatureOf k) n r (mem l (now (notes .entry)) b st)) ⌝ }
 {
     let g = rules::tables::sig_of(k);
     if n < rules::tables::min_args(g) {

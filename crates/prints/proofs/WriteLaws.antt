@@ -12,7 +12,7 @@ use Rattle.recorder.specs.Mem.{Mem, memR}
 use Rattle.sheet.specs.declared.form.Sort.the-variants.{Expr as exprSort}
 use Rattle.sheet.specs.declared.form.Shape.the-variants.{Write}
 use Rattle.sheet.specs.Skip.{skipNode, skipRepeat, skipList, skipFields, skipField, skipTimes, skipPair, skipItem}
-use Rattle.sheet.specs.Tree.{Expr, WriteElement, exprRange, exprAt, itemsAt, stmtNode}
+use Rattle.sheet.specs.Tree.{Expr, WriteElement, exprRange, exprAt, itemsAt, stmtNode, writeElementAt}
 use Rattle.rules.specs.declared.types.«Type».{«Type» as Ty}
 use Rattle.rules.specs.declared.types.«Type».the-variants.{Real}
 use Rattle.rules.specs.Types.{matchesType}
@@ -22,7 +22,7 @@ use Rattle.nodes.specs.Done.{Compiled, CompiledTyped, CountAt}
 use Rattle.expressions.specs.Body.{Body}
 use Rattle.expressions.proofs.Lists.{items-step, repeat-step}
 use Rattle.expressions.proofs.ExprLaws.{range-of}
-use Rattle.prints.specs.Parts.{element, elementHere, keptCall, droppedCall, Written}
+use Rattle.prints.specs.Parts.{element, keptCall, droppedCall, Written}
 
 pub last-kept : (n c : ℕ) → n ≡ 1 → true ≡ either (eqb n 1) (eqb c 1)
 last-kept n c e = rw e
@@ -80,16 +80,16 @@ each-more t base f d ds m = refl
 
 pub write-step : (s t : List ℕ) (base left f n at q c p : ℕ) (r : Range) (m m1 m2 : Mem) (ty : Ty) → 0 < n → Compiled s t base left at m m1 q ty → CountAt s q c p
     → r ≡ rangeAt s (next s at) → ((e : Expr) → r ≡ exprRange e → m2 ≡ writeValue (memR t) t base f (element e c) (eqb n 1) ty m1)
-    → writeEach (memR t) t base f (itemsAt s (elementHere s left) (λ z. next s (skipNode s left exprSort z)) (n - 1) p) m2
-    ≡ writeEach (memR t) t base f (itemsAt s (elementHere s left) (λ z. next s (skipNode s left exprSort z)) n at) m
+    → writeEach (memR t) t base f (itemsAt s (writeElementAt s left) (λ z. next s (skipNode s left exprSort z)) (n - 1) p) m2
+    ≡ writeEach (memR t) t base f (itemsAt s (writeElementAt s left) (λ z. next s (skipNode s left exprSort z)) n at) m
 write-step s t base left f n at q c p r m m1 m2 ty h x k hr v =
     let w : m2 ≡ writeValue (memR t) t base f (element (exprAt s left at) c) (eqb n 1) ty m1 = v (exprAt s left at) (hr ∙ inv (range-of s left at)) in
-    rw (items-step s (elementHere s left) (λ z. next s (skipNode s left exprSort z)) n at h, each-more, ← x .place, ← k .place, ← k .count, last-of s (elementHere s left) (λ z. next s (skipNode s left exprSort z)) n p h, ← x .result, w)
+    rw (items-step s (writeElementAt s left) (λ z. next s (skipNode s left exprSort z)) n at h, each-more, ← x .place, ← k .place, ← k .count, last-of s (writeElementAt s left) (λ z. next s (skipNode s left exprSort z)) n p h, ← x .result, w)
 
 pub write-end : (s t : List ℕ) (base left f n k at at₀ : ℕ) (m m₀ : Mem) → n ≤ 0
     → skipRepeat s (λ z. next s (skipNode s left exprSort z)) n at ≡ skipRepeat s (λ z. next s (skipNode s left exprSort z)) k at₀
-    → writeEach (memR t) t base f (itemsAt s (elementHere s left) (λ z. next s (skipNode s left exprSort z)) n at) m
-    ≡ writeEach (memR t) t base f (itemsAt s (elementHere s left) (λ z. next s (skipNode s left exprSort z)) k at₀) m₀
+    → writeEach (memR t) t base f (itemsAt s (writeElementAt s left) (λ z. next s (skipNode s left exprSort z)) n at) m
+    ≡ writeEach (memR t) t base f (itemsAt s (writeElementAt s left) (λ z. next s (skipNode s left exprSort z)) k at₀) m₀
     → Written s t base left f k at₀ m₀ m at
 unfolding itemsAt writeEach skipRepeat
 write-end s t base left f zero k at at₀ m m₀ h p q = record { place = p; result = q }

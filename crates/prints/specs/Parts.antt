@@ -10,7 +10,7 @@ use Rattle.recorder.specs.Recorder.{Recorder}
 use Rattle.recorder.specs.Mem.{Mem, memR}
 use Rattle.sheet.specs.declared.form.Sort.the-variants.{Expr as exprSort}
 use Rattle.sheet.specs.Skip.{skipNode, skipRepeat, skipElement}
-use Rattle.sheet.specs.Tree.{Expr, Exprs, WriteElement, value, Stmt, exprAt, exprsAt, itemsAt, elementAt}
+use Rattle.sheet.specs.Tree.{Expr, Exprs, WriteElement, value, Stmt, exprAt, exprsAt, itemsAt, elementAt, writeElementAt}
 use Rattle.rules.specs.declared.types.«Type».{«Type» as Ty}
 use Rattle.rules.specs.declared.types.«Type».the-variants.{Real}
 use Rattle.rules.specs.Types.{matchesType}
@@ -22,9 +22,6 @@ use Rattle.rules.specs.Stmt.{surplusNotes, printOne, printEach, writeEach}
 abbrev pub element : Expr → ℕ → WriteElement
 element e c = record { datum = e; comma = c }
 
-abbrev pub elementHere : List ℕ → ℕ → ℕ → WriteElement
-elementHere s left at = element (exprAt s left at) (payloadAt s (skipNode s left exprSort at))
-
 abbrev pub keptCall : {S : Type 0} → Recorder S → Range → ℕ → ℕ → Ty → S → S
 keptCall R r toFile end ty u = R .emit u (pick (matchesType ty Real) 44 45) r toFile end 0
 
@@ -34,7 +31,7 @@ droppedCall R r ty u = R .emit u (pick (matchesType ty Real) 46 47) r 0 0 0
 -- n values of WRITE from a place on
 pub record Written (s t : List ℕ) (base left toFile n at : ℕ) (m m′ : Mem) (p : ℕ) : Type 0 where
   pub place : p ≡ skipRepeat s (λ q. next s (skipNode s left exprSort q)) n at
-  pub result : m′ ≡ writeEach (memR t) t base toFile (itemsAt s (elementHere s left) (λ q. next s (skipNode s left exprSort q)) n at) m
+  pub result : m′ ≡ writeEach (memR t) t base toFile (itemsAt s (writeElementAt s left) (λ q. next s (skipNode s left exprSort q)) n at) m
 
 -- an element of PRINT is skipped by its own word
 abbrev pub overElement : List ℕ → ℕ → ℕ → ℕ

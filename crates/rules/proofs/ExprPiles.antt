@@ -467,7 +467,7 @@ module _ (E : List Entry) (few : Few E) (t : List ℕ) (base : ℕ) where
   abbrev Counted : ℕ → ℕ → List Rec → Type 0
   Counted k n xs = (xs ≡ []) × (n ≤ length (signatureOf k .args))
 
-  arity-code : (k n : ℕ) (r : Range) (i : Ideal) → Code E 0 i (arityNotes R t base k (signatureOf k) n r i) (Unit {0}) (Counted k n)
+  arity-code : (k n : ℕ) (r : Range) (i : Ideal) → Code E 0 i (arityNotes R t base (signatureOf k) n r i) (Unit {0}) (Counted k n)
   unfolding arityNotes
   arity-code k n r i = go (ltb n (signatureOf k .min)) (ltb (length (signatureOf k .args)) n) refl
     where
@@ -480,7 +480,7 @@ module _ (E : List Entry) (few : Few E) (t : List ℕ) (base : ℕ) where
   unfolding funcNotes
   notes-code k n fr r i = go (either (eqb k tab) (eqb k spc))
     where
-      go : (b : Bool) → Code E 0 i (arityNotes R t base k (signatureOf k) n r (pick b (R .note i 12 fr 1) i)) (Unit {0}) (Counted k n)
+      go : (b : Bool) → Code E 0 i (arityNotes R t base (signatureOf k) n r (pick b (R .note i 12 fr 1) i)) (Unit {0}) (Counted k n)
       go true =
           seq E {d₁ = 0} {d₂ = 0} {W₁ = Unit {0}} {W₂ = Unit {0}} {A = λ xs. ⊥} {B = Counted k n} (fails E i 12 (i .line) fr 0 (Unit {0}) (λ xs. ⊥)) (arity-code k n r (R .note i 12 fr 1)) (λ w. w) (λ w. w) (λ xs ys a b. absurd a)
       go false = arity-code k n r i

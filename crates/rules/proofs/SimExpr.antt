@@ -147,15 +147,15 @@ module _ {S T : Type 0} {R : Recorder S} {Q : Recorder T} (σ : Simulation R Q) 
   unfolding numberNode
   sim-number r e m g = pick-goes (eqb e 256) (noted g) (plain refl g)
 
-  sim-arity : {w u : T} {s : S} (k : ℕ) (x : Signature) (n : ℕ) (r : Range) → Goes σ w s u
-      → Goes σ w (arityNotes R t base k x n r s) (arityNotes Q t base k x n r u)
+  sim-arity : {w u : T} {s : S} (x : Signature) (n : ℕ) (r : Range) → Goes σ w s u
+      → Goes σ w (arityNotes R t base x n r s) (arityNotes Q t base x n r u)
   unfolding arityNotes
-  sim-arity k x n r g = pick-goes (ltb n (x .min)) (noted g) (pick-goes (ltb (length (x .args)) n) (noted g) g)
+  sim-arity x n r g = pick-goes (ltb n (x .min)) (noted g) (pick-goes (ltb (length (x .args)) n) (noted g) g)
 
   sim-func-notes : {w u : T} {s : S} (k n : ℕ) (fr r : Range) → Goes σ w s u
       → Goes σ w (funcNotes R t base k n fr r s) (funcNotes Q t base k n fr r u)
   unfolding funcNotes
-  sim-func-notes k n fr r g = sim-arity k (signatureOf k) n r (pick-goes (either (eqb k tab) (eqb k spc)) (noted g) g)
+  sim-func-notes k n fr r g = sim-arity (signatureOf k) n r (pick-goes (either (eqb k tab) (eqb k spc)) (noted g) g)
 
   sim-func : {w u : T} {s : S} (k n : ℕ) (r : Range) → Goes σ w s u → GoesTo σ w (funcNode R t base k n r s) (funcNode Q t base k n r u)
   unfolding funcNode

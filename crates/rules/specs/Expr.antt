@@ -115,14 +115,14 @@ module _ {S : Type 0} (R : Recorder S) (t : List ℕ) (base : ℕ) where
   numberNode r e m s = pick (eqb e 256) (addError 9 r s) (R .emit s 3 r e m 0)
 
   -- compile_sys_func_call: what comes before the arguments
-  unfoldable pub arityNotes : ℕ → Signature → ℕ → Range → S → S
-  arityNotes k g n r s = pick (ltb n (g .min)) (addError 6 r s) (pick (ltb (length (g .args)) n) (addError 7 r s) s)
+  unfoldable pub arityNotes : Signature → ℕ → Range → S → S
+  arityNotes g n r s = pick (ltb n (g .min)) (addError 6 r s) (pick (ltb (length (g .args)) n) (addError 7 r s) s)
 
   abbrev pub tabNote : ℕ → Range → S → S
   tabNote k fr s = pick (either (eqb k tab) (eqb k spc)) (addError 12 fr s) s
 
   unfoldable pub funcNotes : ℕ → ℕ → Range → Range → S → S
-  funcNotes k n fr r s = arityNotes k (signatureOf k) n r (tabNote k fr s)
+  funcNotes k n fr r s = arityNotes (signatureOf k) n r (tabNote k fr s)
 
   unfoldable pub funcNode : ℕ → ℕ → Range → S → Out S
   funcNode k n r s = out (R .emit s 11 r k n 0) (signatureOf k .result)

@@ -204,6 +204,22 @@ module _ (s : List ℕ) where
   stmtsAt f skip zero at = end
   stmtsAt f skip (suc n) at = then (f at) (stmtsAt f skip n (skip at))
 
+  -- the items of lists and options, where expressions have `left` depths left
+  abbrev pub datumAt : ℕ → Datum
+  datumAt at = record { range = rangeAt s at; quoted = payloadAt s (next s at) }
+
+  abbrev pub onTargetAt : ℕ → OnTarget
+  onTargetAt at = record { range = rangeAt s at; label = optAt (labelAt s) (next s at) }
+
+  abbrev pub fieldSpecAt : ℕ → ℕ → FieldSpec
+  fieldSpecAt left at = record { len = exprAt left at; var = exprAt left (skipNode s left exprSort at) }
+
+  abbrev pub lenAt : ℕ → ℕ → Len
+  lenAt left at = record { range = rangeAt s at; value = exprAt left (next s at) }
+
+  abbrev pub writeElementAt : ℕ → ℕ → WriteElement
+  writeElementAt left at = record { datum = exprAt left at; comma = payloadAt s (skipNode s left exprSort at) }
+
   -- a statement behind its own range r, at p; its parts have `left` depths left
   module _ (left : ℕ) (child : ℕ → Stmt) where
     abbrev pub exprHere : ℕ → Expr
@@ -226,21 +242,6 @@ module _ (s : List ℕ) where
 
     abbrev pub stmtList : ℕ → Stmts
     stmtList at = stmtsAt child skipStmt (payloadAt s at) (next s at)
-
-    abbrev pub datumAt : ℕ → Datum
-    datumAt at = record { range = rangeAt s at; quoted = payloadAt s (next s at) }
-
-    abbrev pub fieldSpecAt : ℕ → FieldSpec
-    fieldSpecAt at = record { len = exprHere at; var = exprHere (skipExpr at) }
-
-    abbrev pub onTargetAt : ℕ → OnTarget
-    onTargetAt at = record { range = rangeAt s at; label = optAt (labelAt s) (next s at) }
-
-    abbrev pub lenAt : ℕ → Len
-    lenAt at = record { range = rangeAt s at; value = exprHere (next s at) }
-
-    abbrev pub writeElementAt : ℕ → WriteElement
-    writeElementAt at = record { datum = exprHere at; comma = payloadAt s (skipExpr at) }
 
     abbrev pub elementOf : ℕ → ℕ → PrintElement
     elementOf zero p = value (exprHere p)
@@ -279,7 +280,7 @@ module _ (s : List ℕ) where
     stmtNode Data k r p = dataList r (listOf datumAt (λ q. next s (next s q)) p)
     stmtNode Def k r p = def r (optAt (rangeAt s) p) (optAt (rangeAt s) (next s p)) (exprHere (next s (next s p)))
     stmtNode Dim k r p = dim r (exprList skipExpr p)
-    stmtNode Field k r p = field r (exprHere p) (listOf fieldSpecAt (λ q. skipPlace (skipExpr q)) (skipExpr p))
+    stmtNode Field k r p = field r (exprHere p) (listOf (fieldSpecAt left) (λ q. skipPlace (skipExpr q)) (skipExpr p))
     stmtNode For k r p =
         for r (optAt (rangeAt s) p) (exprHere (next s p)) (exprHere (skipExpr (next s p))) (optAt exprHere (skipExpr (skipExpr (next s p))))
     stmtNode GoSub k r p = go r 1 (optAt targetAt p)
@@ -292,7 +293,7 @@ module _ (s : List ℕ) where
     stmtNode Next k r p = next-of r (listOf (optAt (rangeAt s)) (next s) p)
     stmtNode On k r p = on r (exprHere p) (listOf onTargetAt (λ q. next s (next s q)) (skipExpr p)) (payloadAt s (skipList s (λ q. next s (next s q)) (skipExpr p)))
     stmtNode Open k r p =
-        open-file r (exprHere p) (payloadAt s (skipExpr p)) (exprHere (next s (skipExpr p))) (optAt lenAt (skipExpr (next s (skipExpr p))))
+        open-file r (exprHere p) (payloadAt s (skipExpr p)) (exprHere (next s (skipExpr p))) (optAt (lenAt left) (skipExpr (next s (skipExpr p))))
     stmtNode Print k r p = print r (listOf elementAt (λ q. skipElement s (skipNode s left) (payloadAt s q) (next s q)) p)
     stmtNode Read k r p = read r (exprList skipPlace p)
     stmtNode Restore k r p = restore r (optAt targetAt p)
@@ -300,7 +301,7 @@ module _ (s : List ℕ) where
     stmtNode System k r p = system r
     stmtNode While k r p = while r (exprHere p)
     stmtNode Write k r p =
-        write r (optAt exprHere p) (listOf writeElementAt (λ q. next s (skipExpr q)) (choose (isAbsent s p) (next s) skipExpr p))
+        write r (optAt exprHere p) (listOf (writeElementAt left) (λ q. next s (skipExpr q)) (choose (isAbsent s p) (next s) skipExpr p))
 
   -- a statement with `left` depths left
   unfoldable pub stmtAt : ℕ → ℕ → Stmt

@@ -5,18 +5,14 @@ use Prim.Native.Nat.{ℕ}
 use lib.Dec.{ltb, eqb}
 use Rattle.recorder.specs.declared.word.Range.{Range}
 use Rattle.recorder.specs.declared.codegen.St.{St}
-use Rattle.recorder.specs.Word.{pick, rangeAt, next, choose}
+use Rattle.recorder.specs.Word.{pick, next, choose}
 use Rattle.recorder.specs.Recorder.{Recorder}
 use Rattle.recorder.specs.Mem.{Mem, mem, memR}
 use Rattle.sheet.specs.declared.form.Sort.the-variants.{Expr as exprSort}
 use Rattle.sheet.specs.Form.{isAbsent}
 use Rattle.sheet.specs.Skip.{skipNode, skipRepeat}
-use Rattle.sheet.specs.Tree.{Opt, absent, given, Len, value, exprAt, exprsAt, optAt}
+use Rattle.sheet.specs.Tree.{Opt, absent, given, exprAt, exprsAt, optAt, lenAt}
 use Rattle.rules.specs.Stmt.{ByteRead, fresh, signed, byteSoFar, noByte, badBytes, loadNode, openNode}
-
--- OPEN's LEN at a place: its range, then its value
-abbrev pub lenHere : List ℕ → ℕ → ℕ → Len
-lenHere s left at = record { range = rangeAt s at; value = exprAt s left (next s at) }
 
 abbrev pub openCall : {S : Type 0} → Recorder S → ℕ → Range → S → S
 openCall R mode r u = pick (eqb mode 0) u (R .emit u 34 r mode 1 0)
@@ -24,7 +20,7 @@ openCall R mode r u = pick (eqb mode 0) u (R .emit u 34 r mode 1 0)
 -- OPEN from its LEN on
 pub record Opened (s t : List ℕ) (base left mode : ℕ) (r : Range) (at : ℕ) (m m′ : Mem) (p : ℕ) : Type 0 where
   pub place : p ≡ choose (isAbsent s at) (next s) (λ q. skipNode s left exprSort (next s q)) at
-  pub result : m′ ≡ openNode (memR t) t base r mode (optAt s (lenHere s left) at) m
+  pub result : m′ ≡ openNode (memR t) t base r mode (optAt s (lenAt s left) at) m
 
 -- a byte that is being read, as the code's number
 abbrev pub readOf : ℕ → ByteRead

@@ -6,10 +6,9 @@ use mathlib.Core.Path.{_≡_, refl, _∙_}
 use lib.ListN.{length}
 use Rattle.recorder.specs.Mem.{mem, memR}
 use Rattle.sheet.specs.Skip.{skipRepeat}
-use Rattle.sheet.specs.Tree.{itemsAt}
+use Rattle.sheet.specs.Tree.{itemsAt, datumAt}
 use Rattle.rules.specs.Stmt.{compileData}
 use Rattle.expressions.specs.Lists.{twoOn}
-use Rattle.declarations.specs.Parts.{datumHere}
 use Rattle.declarations.proofs.Laws.{step-data, step-two, data-done}
 use Rattle.declarations.proofs.data.data_each.Statement.{statement}
 use Rattle.declarations.proofs.data.data_each.Tie as tie
@@ -23,7 +22,7 @@ use Rattle.recorder.proofs.word.range_at.Reads as range-at-reads
 abbrev Inv-loop : tie.InvT-loop
 Inv-loop sheet text notes₀ book₀ base at n s₀ p₀ more₀ notes book s p more = (length notes ≡ length notes₀) × (length book ≡ length book₀)
     × (skipRepeat sheet (twoOn sheet) more p ≡ skipRepeat sheet (twoOn sheet) n at)
-    × ((l : List ℕ) → compileData (memR text) text base (itemsAt sheet (datumHere sheet) (twoOn sheet) more p) (mem l notes book s) ≡ compileData (memR text) text base (itemsAt sheet (datumHere sheet) (twoOn sheet) n at) (mem l notes₀ book₀ s₀))
+    × ((l : List ℕ) → compileData (memR text) text base (itemsAt sheet (datumAt sheet) (twoOn sheet) more p) (mem l notes book s) ≡ compileData (memR text) text base (itemsAt sheet (datumAt sheet) (twoOn sheet) n at) (mem l notes₀ book₀ s₀))
 
 abbrev μ-loop : tie.MeasureT-loop
 μ-loop sheet text notes₀ book₀ base at n s₀ p₀ more₀ notes book s p more = more

@@ -5,9 +5,9 @@ use mathlib.Core.Path.{_≡_, refl, _∙_}
 use lib.ListN.{length}
 use Rattle.recorder.specs.Mem.{mem, memR}
 use Rattle.sheet.specs.Skip.{skipRepeat}
-use Rattle.sheet.specs.Tree.{itemsAt}
+use Rattle.sheet.specs.Tree.{itemsAt, fieldSpecAt}
 use Rattle.rules.specs.Stmt.{compileFields}
-use Rattle.declarations.specs.Parts.{pairOn, fieldHere}
+use Rattle.declarations.specs.Parts.{pairOn}
 use Rattle.declarations.proofs.PlaceLaws.{step-pair, step-field, fields-done}
 use Rattle.declarations.proofs.field.field_each.Statement.{statement}
 use Rattle.declarations.proofs.field.field_each.Tie as tie
@@ -19,7 +19,7 @@ use Rattle.expressions.proofs.expr.place_typed.Reads as place-typed-reads
 abbrev Inv-loop : tie.InvT-loop
 Inv-loop sheet text list₀ notes₀ book₀ base at n left s₀ p₀ more₀ list notes book s p more = (length list ≡ length list₀) × (length notes ≡ length notes₀) × (length book ≡ length book₀)
     × (skipRepeat sheet (pairOn sheet left) more p ≡ skipRepeat sheet (pairOn sheet left) n at)
-    × (compileFields (memR text) text base (itemsAt sheet (fieldHere sheet left) (pairOn sheet left) more p) (mem list notes book s) ≡ compileFields (memR text) text base (itemsAt sheet (fieldHere sheet left) (pairOn sheet left) n at) (mem list₀ notes₀ book₀ s₀))
+    × (compileFields (memR text) text base (itemsAt sheet (fieldSpecAt sheet left) (pairOn sheet left) more p) (mem list notes book s) ≡ compileFields (memR text) text base (itemsAt sheet (fieldSpecAt sheet left) (pairOn sheet left) n at) (mem list₀ notes₀ book₀ s₀))
 
 abbrev μ-loop : tie.MeasureT-loop
 μ-loop sheet text list₀ notes₀ book₀ base at n left s₀ p₀ more₀ list notes book s p more = more

@@ -5,9 +5,8 @@ use Rattle.recorder.specs.Word.{next}
 use Rattle.recorder.specs.Mem.{mem, memR}
 use Rattle.sheet.specs.declared.form.Sort.the-variants.{Expr as exprSort}
 use Rattle.sheet.specs.Skip.{skipNode, skipRepeat}
-use Rattle.sheet.specs.Tree.{itemsAt}
+use Rattle.sheet.specs.Tree.{itemsAt, writeElementAt}
 use Rattle.rules.specs.Stmt.{writeEach}
-use Rattle.prints.specs.Parts.{elementHere}
 use Rattle.prints.proofs.WriteLaws.{write-place, write-step, write-end}
 use borrow.Author.Needs.{needs}
 use Rattle.prints.proofs.writes.write_each.Statement.{statement}
@@ -18,7 +17,7 @@ use Rattle.prints.proofs.writes.write_each.Lts as lts
 abbrev Inv-loop : tie.InvT-loop
 Inv-loop sheet text list₀ notes₀ book₀ base at left n file s₀ p₀ more₀ list notes book s p more = (length list ≡ length list₀) × (length notes ≡ length notes₀) × (length book ≡ length book₀)
     × (skipRepeat sheet (λ z. next sheet (skipNode sheet left exprSort z)) more p ≡ skipRepeat sheet (λ z. next sheet (skipNode sheet left exprSort z)) n at)
-    × (writeEach (memR text) text base file (itemsAt sheet (elementHere sheet left) (λ z. next sheet (skipNode sheet left exprSort z)) more p) (mem list notes book s) ≡ writeEach (memR text) text base file (itemsAt sheet (elementHere sheet left) (λ z. next sheet (skipNode sheet left exprSort z)) n at) (mem list₀ notes₀ book₀ s₀))
+    × (writeEach (memR text) text base file (itemsAt sheet (writeElementAt sheet left) (λ z. next sheet (skipNode sheet left exprSort z)) more p) (mem list notes book s) ≡ writeEach (memR text) text base file (itemsAt sheet (writeElementAt sheet left) (λ z. next sheet (skipNode sheet left exprSort z)) n at) (mem list₀ notes₀ book₀ s₀))
 
 abbrev μ-loop : tie.MeasureT-loop
 μ-loop sheet text list₀ notes₀ book₀ base at left n file s₀ p₀ more₀ list notes book s p more = more
