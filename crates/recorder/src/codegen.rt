@@ -607,7 +607,8 @@ fn seek(text: &[u16], book: &[u32], st: St, at: usize, start: u32, len: u32, sig
     )
 }
 
-// The search for a name. It is apart from what makes one, so that the state is not copied where the name is known.
+// The search for a name. It is apart from what makes one, so that the state is not copied where the name is known. Slices go on
+// as `&*` here and in what it calls: a copied one is written in two parts and read as one, for which the processor waits.
 fn find_symbol(text: &[u16], book: &[u32], st: St, start: u32, len: u32, sigil: u32) -> Sought
     ensures { λ r. ⌜ (r .way ≡ wayTo (now (text .entry)) (now (book .entry)) st start len sigil) × (r .entry ≡ seek (now (text .entry)) (now (book .entry)) st start len sigil) ⌝ }
 {

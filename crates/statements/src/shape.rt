@@ -5,7 +5,7 @@ ghost use Rattle.sheet.specs.Tree.{shapeOf};
 ghost use Rattle.statements.specs.Shapes.{shapeBy};
 
 // By the place in StmtKind: the place of its shape in Shape. A number and not the shape itself, because plain.rt goes by groups
-// of eight: a `match` of 31 arms that lend three buffers takes the prover minutes.
+// of eight, so that no `match` has many arms that lend three buffers.
 pub fn shape_of(k: u32) -> u8
     ensures { λ r. ⌜ (shapeBy r ≡ shapeOf k) × (r < 31) ⌝ }
 {
