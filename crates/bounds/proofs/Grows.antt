@@ -16,7 +16,7 @@ use Rattle.rules.specs.declared.types.«Type».the-variants.{Integer, Real, Str
 use Rattle.rules.specs.Types.{matchesType, exactMatches}
 use Rattle.rules.specs.Name.{readName}
 use Rattle.rules.specs.Tables.{drawArity, drawn, operand, signatureOf, tab, spc, wanted, everyReal}
-use Rattle.rules.specs.Expr.{Out, textSize, quotedLength, isText, compileSym, checkType, checkReal, realSym, varNode, textNode, numberNode, arityNotes, funcNotes, funcNode, funcName, userCall, likeNode, arithNode, binaryNode, unaryNode, indexNode, compileExpr, compileArgs, compileTyped, indexPlace, compileLvalue}
+use Rattle.rules.specs.Expr.{Out, textSize, quotedLength, isText, compileSym, checkType, checkReal, realSym, varNode, textNode, numberNode, arityNotes, funcNotes, funcNode, optRealSym, userCall, likeNode, arithNode, binaryNode, unaryNode, indexNode, compileExpr, compileArgs, compileTyped, indexPlace, compileLvalue}
 use Rattle.rules.specs.Stmt.{byteOf, isIdent, datumLength, isValue, isFile, isTabSpc, isLast, surplusNotes, drawNode, datumNode, compileData, defNode, compileDef, dimNode, dimOne, compileDim, placeTyped, compileFields, compileField, compileStep, forNode, compileFor, compileGo, compileRestore, inputArgBy, fnPlace, fnInput, inputVar, inputVars, inputSource, compileInput, assignCall, assignNode, compileLet, badByte, badBytes, allBytes, loadByte, loadBytes, loadNode, compileLoad, locatePart, compileLocate, nextOne, nextEach, compileNext, onJumps, compileOn, openNode, compileOpen, tabCall, printValue, behindValue, printOne, printEach, emptyLine, compilePrint, compileRead, compileSwap, compileWhile, writeValue, writeEach, compileWrite, compileStmt, compileStmts}
 use Rattle.bounds.specs.Size.{exprWords, exprsWords, optExpr, optTarget, optLen, sourceWords, elementWords, elementsWords, writtenWords, specsWords, ones, twos, stmtWords, stmtsWords}
 use Rattle.bounds.proofs.Tally.{Tally, makes, reads, valued, args, noted, entered, plus-is, noteLater, Counts, two-words, count-words}
@@ -52,9 +52,9 @@ module _ {S : Type 0} {R : Recorder S} {P : Tally → S → Type 0} (κ : Counts
   unfolding realSym checkReal
   grow-real-sym {s = s} r p = let q = grow-sym r p in pick-in (exactMatches (compileSym R t base r s .ty) Real) (idle 0 1 0 q) (κ .note q)
 
-  grow-func-name : {k : Tally} {s : S} (f : Opt Range) → P k s → P (makes 0 2 1 k) (funcName R t base f s .state)
-  grow-func-name absent p = idle 0 2 1 p
-  grow-func-name (given fr) p = grow-real-sym fr p
+  grow-opt-real-sym : {k : Tally} {s : S} (f : Opt Range) → P k s → P (makes 0 2 1 k) (optRealSym R t base f s .state)
+  grow-opt-real-sym absent p = idle 0 2 1 p
+  grow-opt-real-sym (given fr) p = grow-real-sym fr p
 
   -- expressions
   grow-text : {k : Tally} {s : S} (r : Range) → P k s → P (makes 1 1 0 k) (textNode R t base r s)
@@ -102,7 +102,7 @@ module _ {S : Type 0} {R : Recorder S} {P : Tally → S → Type 0} (κ : Counts
     grow-expr (numberLit r e m) p = κ .fit (grow-number r e m p) (omega arith)
     grow-expr (sysFuncCall r fr f es) p =
         κ .fit (κ .emit refl (grow-args (wanted (signatureOf f .args)) zero es (grow-func-notes f (count es) fr r p))) (omega arith)
-    grow-expr (userFuncCall r f e) p = κ .fit (grow-user f r _ (grow-check Real (exprRange e) _ (grow-expr e (grow-func-name f p)))) (omega arith)
+    grow-expr (userFuncCall r f e) p = κ .fit (grow-user f r _ (grow-check Real (exprRange e) _ (grow-expr e (grow-opt-real-sym f p)))) (omega arith)
     grow-expr (binary r a o f b) p = κ .fit (grow-binary f r (exprRange a) o (exprRange b) _ _ (grow-expr b (grow-expr a p))) (omega arith)
     grow-expr (unary r f e) p = κ .fit (κ .emit refl (grow-check Real (exprRange e) _ (grow-expr e p))) (omega arith)
     grow-expr (index r n es) p = κ .fit (grow-index n r (count es) (grow-args everyReal zero es p)) (omega arith)
@@ -232,7 +232,7 @@ module _ {S : Type 0} {R : Recorder S} {P : Tally → S → Type 0} (κ : Counts
   grow-fn-input : {k : Tally} {s : S} (b : Bool) (r : Range) (f : Opt Range) (e : Expr) → P k s → P (valued (userFuncCall r f e) k) (fnInput R t base b r f e s)
   unfolding exprWords
   grow-fn-input true r f e p = κ .fit (κ .note p) (omega arith)
-  grow-fn-input false r f e p = κ .fit (grow-fn-place f (isIdent e) r _ _ (grow-input-arg (isIdent e) e (grow-func-name f p))) (omega (arith, two-words e))
+  grow-fn-input false r f e p = κ .fit (grow-fn-place f (isIdent e) r _ _ (grow-input-arg (isIdent e) e (grow-opt-real-sym f p))) (omega (arith, two-words e))
 
   grow-input-var : {k : Tally} {s : S} (b : Bool) (e : Expr) → P k s → P (valued e k) (inputVar R t base b e s)
   unfolding inputVar
@@ -414,10 +414,10 @@ module _ {S : Type 0} {R : Recorder S} {P : Tally → S → Type 0} (κ : Counts
     grow-stmt (draw f r es) p = grow-draw f r es p
     grow-stmt (set f r a b) p = κ .fit (κ .emit refl (grow-typed String b (grow-place String a p))) (omega arith)
     grow-stmt (dataList r ds) p = κ .fit (grow-data ds p) (omega arith)
-    grow-stmt (def r n a e) p = κ .fit (grow-def n a r _ _ e (grow-func-name a (grow-func-name n p))) (omega arith)
+    grow-stmt (def r n a e) p = κ .fit (grow-def n a r _ _ e (grow-opt-real-sym a (grow-opt-real-sym n p))) (omega arith)
     grow-stmt (dim r es) p = κ .fit (grow-dim es p) (omega arith)
     grow-stmt (field r e fs) p = κ .fit (κ .emit refl (grow-typed Real e (grow-fields fs p))) (omega arith)
-    grow-stmt (for r v a b e) p = κ .fit (grow-for v r _ e (grow-step e (grow-typed Real b (grow-typed Real a (grow-func-name v p))))) (omega arith)
+    grow-stmt (for r v a b e) p = κ .fit (grow-for v r _ e (grow-step e (grow-typed Real b (grow-typed Real a (grow-opt-real-sym v p))))) (omega arith)
     grow-stmt (go r sub x) p = κ .fit (grow-go r sub x p) (omega arith)
     grow-stmt (ifThen r e xs) p = κ .fit (κ .patch (grow-stmts xs (κ .emit refl (grow-typed Real e p)))) (omega arith)
     grow-stmt (ifElse r e xs ys) p =

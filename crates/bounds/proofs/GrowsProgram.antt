@@ -10,22 +10,22 @@ use borrow.Author.Tests.{eqb-true}
 use native.Mathlib.Omega.{arith}
 use Rattle.recorder.specs.Word.{pick, both, either}
 use Rattle.recorder.specs.Recorder.{Recorder, Look, unpack}
-use Rattle.recorder.specs.Ideal.{Rec, rec, noteOf, Entry, Ideal, ideal, Search, missing, found, findName, symbolIn, symbolOf, change, withA, withC, settled, unsettled, lookOf}
+use Rattle.recorder.specs.Ideal.{Rec, rec, noteOf, Entry, Ideal, ideal, Search, missing, found, findName, symbolIn, symbolOf, change, withA, withC, settled, unlabelled, lookOf}
 use Rattle.recorder.specs.Marks.{Mark, addrOf, dataOf}
 use Rattle.recorder.specs.Closing.{isWhile, recAt, endFrom, closeWhiles, openNote, openNotes, delays, endRec, cleanUp, rulesR}
 use Rattle.recorder.proofs.Bools.{never}
 use Rattle.recorder.proofs.Words.{length-snoc, change-length}
 use Rattle.simulation.proofs.Clean.{close-length, delays-length}
-use Rattle.sheet.specs.Tree.{Opt, absent, given, Labelled, ProgramLine}
+use Rattle.sheet.specs.Tree.{Opt, absent, given, Target, ProgramLine}
 use Rattle.rules.specs.Program.{Lines, isPendingJump, isPendingRestore, labelNote, compileLine, compileLines, firstLine, settleBy, resolveLabels, resolveDatumIndices, closeUp}
-use Rattle.bounds.specs.Size.{optLabel, lineWords, linesWords, programWords}
+use Rattle.bounds.specs.Size.{optTarget, lineWords, linesWords, programWords}
 use Rattle.bounds.specs.Bounded.{Bounded}
 use Rattle.bounds.proofs.Tally.{Tally, tally, makes, reads, pends, Counts}
 use Rattle.bounds.proofs.Grows.{pick-in, grow-stmts}
 
 -- lines
 module _ {S : Type 0} {R : Recorder S} {P : Tally → S → Type 0} (κ : Counts R P) (t : List ℕ) where
-  grow-label : {k : Tally} {s : S} (base last : ℕ) (l : Opt Labelled) → P k s → P (reads (optLabel l) k) (labelNote R t base last l s)
+  grow-label : {k : Tally} {s : S} (base last : ℕ) (l : Opt Target) → P k s → P (reads (optTarget l) k) (labelNote R t base last l s)
   grow-label base last absent p = κ .fit p (omega arith)
   grow-label base last (given l) p = pick-in κ t base (ltb (l .label) last) (κ .fit (κ .note p) (omega arith)) (κ .fit p (omega arith))
 
@@ -125,8 +125,8 @@ settle-room {i = i} t (found v) class severity at q e p =
 settle-room {i = i} t missing class severity at q e p =
     omega (
       arith,
-      change-length unsettled (i .records) at,
-      later-less unsettled (λ r. refl) (i .records) at e,
+      change-length unlabelled (i .records) at,
+      later-less unlabelled (λ r. refl) (i .records) at e,
       length-snoc (i .notes) (noteOf class (q .line) (unpack (q .c)) severity),
     )
 

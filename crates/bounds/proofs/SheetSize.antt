@@ -197,13 +197,13 @@ module _ (s : List ℕ) where
 
   -- a line, the lines, the sheet
   module _ (t : List ℕ) where
-    label-takes : (line : Line) (p : ℕ) → Takes (choose (Form.isAbsent s p) (λ q. 1) (λ q. 2) p) p (Tree.behindLabel s p) (Form.labelForm s line p)
+    pub label-takes : (line : Line) (p : ℕ) → Takes (choose (Form.isAbsent s p) (λ q. 1) (λ q. 2) p) p (Tree.behindLabel s p) (Form.labelForm s line p)
     unfolding Form.labelForm
     label-takes line p =
         takes-choose (Form.isAbsent s p) (λ q. 1) (λ q. 2) (next s) (λ q. next s (next s q)) (Form.absentForm s) (λ q. Form.then (Form.rangeForm s line q) (λ u. Form.takeWord s 3 65536 u)) p
         (word-takes s 2 1 p (omega arith)) (takes-then _ (range-takes s line p) (word-takes s 3 65536 (next s p) (omega arith)))
 
-    line-takes : (base p : ℕ) → Takes (Size.lineWords (Tree.lineAt s p)) p (Tree.behindLine s p) (Form.lineForm s t base p)
+    pub line-takes : (base p : ℕ) → Takes (Size.lineWords (Tree.lineAt s p)) p (Tree.behindLine s p) (Form.lineForm s t base p)
     unfolding Form.lineForm Form.lineHead
     line-takes base p =
         let line = Form.lineOf s t base p in
@@ -213,7 +213,7 @@ module _ (s : List ℕ) where
         takes-less
         (takes-then _ (takes-then _ (word-takes s 16 4096 p (omega arith)) (takes-test (leb (base + payloadAt s p) (length t)) _ (takes-at _)))
         (takes-then _ (label-takes line (next s p)) (list-takes s t line (Form.nodeForm s t line 64 Stmt) count skip (node-takes s t line 64 Stmt) q)))
-        (omega (arith, opt-fits Size.optLabel (Tree.labelledAt s) (λ u. 2) (next s p) (omega arith) (omega arith), stmts-fit (Tree.stmtAt s 64) count skip (tree-fits 64 Stmt) (payloadAt s q) (next s q)))
+        (omega (arith, opt-fits Size.optTarget (Tree.targetAt s) (λ u. 2) (next s p) (omega arith) (omega arith), stmts-fit (Tree.stmtAt s 64) count skip (tree-fits 64 Stmt) (payloadAt s q) (next s q)))
 
     end-takes : (base p : ℕ) → Takes 0 p p (Form.endForm s t base p)
     unfolding Form.endForm

@@ -21,9 +21,8 @@ use Rattle.sheet.specs.declared.form.Offence.the-variants.{BadWord, TooDeep}
 use Rattle.sheet.specs.declared.form.Walk.{Walk}
 use Rattle.sheet.specs.declared.form.Walk.the-variants.{Behind, Stops}
 use Rattle.sheet.specs.declared.form.Line.{Line}
-use Rattle.sheet.specs.Table.{exprRange, ownRange, fieldsOf, isFseek}
-use Rattle.sheet.specs.Parts.{highFits, lowFits, lacksUnit}
-use Rattle.sheet.specs.Form.{then, isAbsent, hasUnit, isNameRange, takeWord, absentForm, nonEmptyForm, highForm, lowForm, numberForm, headForm, inLine, rangeForm, textForm, datumForm, nameForm, sourceRest, elementRest, itemForm, pairForm, repeatForm, listForm, timesForm, fieldForm, fieldsForm, bodyForm, nodeForm}
+use Rattle.sheet.specs.Table.{exprRangeItem, ownRange, fieldsOf, isFseek}
+use Rattle.sheet.specs.Form.{then, isAbsent, hasUnit, isNameRange, takeWord, absentForm, nonEmptyForm, highForm, lowForm, numberForm, headForm, inLine, rangeForm, textForm, datumForm, nameForm, sourceRest, elementRest, itemForm, pairForm, repeatForm, listForm, timesForm, fieldForm, fieldsForm, bodyForm, nodeForm, highFits, lowFits, lacksUnit}
 use Rattle.sheet.specs.Skip.{skipSource, skipElement, skipItem, skipPair, skipRepeat, skipList, skipTimes, skipField, skipFields, skipNode}
 use Rattle.sheet.proofs.Walks.{pick-behind}
 use Rattle.walk.proofs.Steps.{to-next}
@@ -231,7 +230,7 @@ module _ (s : List ℕ) where
       fields-takes [] p = takes-at p
       fields-takes (f ∷ fs) p = takes-then _ (field-takes f p) (fields-takes fs (skipField s skip f p))
 
-      expr-own-takes : (k p : ℕ) → Takes 1 p (next s p) (itemForm s t line child (exprRange k) p)
+      expr-own-takes : (k p : ℕ) → Takes 1 p (next s p) (itemForm s t line child (exprRangeItem k) p)
       unfolding itemForm
       expr-own-takes zero p = name-takes p
       expr-own-takes (suc zero) p = text-takes line p

@@ -1,22 +1,20 @@
 -- What an accepted sheet makes is bounded by its length, so ample buffers are never too short: refusals 9, 10 and 11 do not come.
 use mathlib.Core.Path.{_≡_, refl, ap, _∙_}
-use mathlib.Core.List.{List, [], _∷_}
-use mathlib.Core.Bool.{Bool, true, false}
-use Prim.Native.Nat.{ℕ, suc, _*_, _/_, _≤_}
+use mathlib.Core.List.{List}
+use Prim.Native.Nat.{ℕ, _*_, _/_, _≤_}
 use native.Mathlib.Omega.{arith}
 use borrow.Author.Tests.{le-ltb}
-use lib.Dec.{eqb}
 use lib.ListN.{length}
-use Rattle.recorder.specs.Word.{pick}
-use Rattle.recorder.specs.Ideal.{Entry, Ideal, howMany}
-use Rattle.recorder.specs.Layout.{noteSize, entrySize}
+use Rattle.recorder.specs.Ideal.{Ideal, howMany}
+use Rattle.recorder.specs.Layout.{noteSize, entrySize, mostRecords}
 use Rattle.sheet.specs.declared.form.Checked.{Checked}
 use Rattle.sheet.specs.declared.form.Checked.the-variants.{Accepted, TooLong, Surrogate, WorkTooShort, Offends}
 use Rattle.sheet.specs.declared.form.Offence.the-variants.{BadWord, TooDeep, BadLength, BadRange, Fseek}
 use Rattle.sheet.specs.Check.{checked}
 use Rattle.sheet.specs.Tree.{programAt}
 use Rattle.walk.proofs.Within.{Walked, walked}
-use Rattle.rules.specs.Outcome.{Lengths, lengths, accepted, compiled, finished, mostRecords, sized, outcomeBy, outcome}
+use Rattle.rules.specs.Outcome.{Lengths, lengths, accepted, compiled, finished, sized, outcomeBy, outcome}
+use Rattle.simulation.proofs.Sim.{how-le}
 use Rattle.bounds.specs.Size.{programWords}
 use Rattle.bounds.specs.Bounded.{Bounded, Ample}
 use Rattle.bounds.proofs.GrowsProgram.{grows}
@@ -64,17 +62,8 @@ module _ (s t : List ℕ) where
       go (Offends (Fseek p)) e = omega arith
 
 -- a number within its kind is never cut: a head's 24 bits hold it
-one-most : (b : Bool) (n m : ℕ) → n ≤ m → pick b (suc n) n ≤ suc m
-one-most true n m h = omega arith
-one-most false n m h = omega arith
-
-many-most : (k : ℕ) (es : List Entry) → howMany k es ≤ length es
-unfolding howMany
-many-most k [] = omega arith
-many-most k (e ∷ es) = one-most (eqb (e .kind) k) (howMany k es) (length es) (many-most k es)
-
 pub uncut : (s t : List ℕ) (work k : ℕ) → checked s t work ≡ Accepted → howMany k (finished s t .entries) ≤ 65536
-uncut s t work k e = omega (arith, many-most k (finished s t .entries), bounded s t work e .entries, walked s t work e .short)
+uncut s t work k e = omega (arith, how-le k (finished s t .entries), bounded s t work e .entries, walked s t work e .short)
 
 -- the lengths that include/hollupsa.h names
 pub seven-eight-four : (n w : ℕ) → n ≤ 49151 → Ample n (lengths (7 * n) (8 * n) (4 * n) w)

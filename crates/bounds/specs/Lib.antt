@@ -1,2 +1,4 @@
 pub mod Size
 pub mod Bounded
+pub mod Uncut
+pub mod Literals

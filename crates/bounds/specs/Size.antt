@@ -2,7 +2,7 @@
 -- A statement that the tree holds without its fields (REM and its like, RUN) counts its first two words.
 use mathlib.Core.List.{List, [], _∷_}
 use Prim.Native.Nat.{ℕ, _+_}
-use Rattle.sheet.specs.Tree.{Opt, absent, given, Expr, ident, stringLit, numberLit, sysFuncCall, userFuncCall, binary, unary, index, inkey, error, Exprs, none, more, FieldSpec, Target, Len, WriteElement, PrintElement, value, comma, semicolon, InputSource, keyboard, file, Stmt, rem, op₀, op₁, op₂, op₃, draw, set, dataList, def, dim, field, for, go, ifThen, ifElse, input, assign, load, locate, next-of, on, open-file, print, read, restore, swap, system, while, write, Stmts, end, then, Labelled, ProgramLine}
+use Rattle.sheet.specs.Tree.{Opt, absent, given, Expr, ident, stringLit, numberLit, sysFuncCall, userFuncCall, binary, unary, index, inkey, error, Exprs, none, more, FieldSpec, Target, Len, WriteElement, PrintElement, value, comma, semicolon, InputSource, keyboard, file, Stmt, rem, op₀, op₁, op₂, op₃, draw, set, dataList, def, dim, field, for, go, ifThen, ifElse, input, assign, load, locate, next-of, on, open-file, print, read, restore, swap, system, while, write, Stmts, end, then, Target, ProgramLine}
 
 -- 21, the range, and what each case has besides
 unfoldable mutual
@@ -106,12 +106,8 @@ unfoldable mutual
   stmtsWords (then x xs) = stmtWords x + stmtsWords xs
 
 -- "10 with its length in units, then absent, or range and label; then a count and the statements"
-abbrev pub optLabel : Opt Labelled → ℕ
-optLabel absent = 1
-optLabel (given l) = 2
-
 abbrev pub lineWords : ProgramLine → ℕ
-lineWords l = 2 + optLabel (l .label) + stmtsWords (l .stmts)
+lineWords l = 2 + optTarget (l .label) + stmtsWords (l .stmts)
 
 unfoldable pub linesWords : List ProgramLine → ℕ
 linesWords [] = 0

@@ -13,9 +13,9 @@ use Rattle.recorder.proofs.Words.{sets-fill}
 use Rattle.recorder.specs.Word.{pick}
 use Rattle.recorder.specs.Ideal.{Search, missing, found}
 use Rattle.recorder.specs.Layout.{wordsOf, fill}
-use Rattle.recorder.specs.Marks.{Mark, mark, orElse, addrOf, datumOf, dataOf}
+use Rattle.recorder.specs.Marks.{Mark, mark, orElse, addrOf, datumFrom, dataOf}
 use Rattle.recorder.proofs.Bools.{both-parts}
-use Rattle.closing.specs.MarkWords.{markWords, markList, markCount, marked, labelOf, middle, seek, datumAt, lastOf, firstDatumOf, sortedTarget, sortedStart, findLabel, findDatum, below, rise}
+use Rattle.closing.specs.MarkWords.{markWords, markList, markCount, markedLines, markLabel, middle, seekLabel, markDatum, lastOf, firstDatumOf, sortedTarget, sortedStart, findLabel, findDatum, below, rise}
 
 noMark : Mark
 noMark = mark 0 0 0
@@ -97,13 +97,13 @@ unfolding lastOf
 last-none w l ms = or-missing (addrOf ms l)
 
 -- the first datum
-or-datum : (o : Search) (c : Bool) (f : ℕ) → pick (ltb 0 (pick c f 0)) (datumOf (pick c f 0)) o ≡ orElse (pick c (datumOf f) missing) o
+or-datum : (o : Search) (c : Bool) (f : ℕ) → pick (ltb 0 (pick c f 0)) (datumFrom (pick c f 0)) o ≡ orElse (pick c (datumFrom f) missing) o
 or-datum o true zero = refl
 or-datum o true (suc f) = rw (lt-ltb 0 (suc f) (omega arith))
 or-datum o false f = refl
 
-datum-is : (w : List ℕ) (l k : ℕ) (m : Mark) → getD w (3 * k) 0 ≡ m .label → getD w (3 * k + 2) 0 ≡ m .first → k < length w / 3 → datumAt w l k ≡ pick (eqb (m .label) l) (m .first) 0
-unfolding datumAt
+datum-is : (w : List ℕ) (l k : ℕ) (m : Mark) → getD w (3 * k) 0 ≡ m .label → getD w (3 * k + 2) 0 ≡ m .first → k < length w / 3 → markDatum w l k ≡ pick (eqb (m .label) l) (m .first) 0
+unfolding markDatum
 datum-is w l k m a b h = rw (lt-ltb k (length w / 3) h, a, b)
 
 data-from : (w : List ℕ) (l : ℕ) (ps es : List Mark) (zs : List ℕ) (k : ℕ) → w ≡ wordsOf markWords ps ++ (wordsOf markWords es ++ zs) → length ps ≡ k
@@ -155,59 +155,59 @@ data-none [] l h = refl
 data-none (m ∷ ms) l h = rw (data-none ms l (λ i d. h (suc i) (omega arith)), ne-eqb (m .label) l (h 0 (omega arith)))
 
 data-at : (ms : List Mark) (l p : ℕ) → p < length ms → getD ms p noMark .label ≡ l → ((i : ℕ) → i < length ms → (i ≡ p → ⊥) → getD ms i noMark .label ≡ l → ⊥)
-    → dataOf ms l ≡ datumOf (getD ms p noMark .first)
+    → dataOf ms l ≡ datumFrom (getD ms p noMark .first)
 unfolding dataOf
 data-at [] l p h e n = absurd (omega arith)
-data-at (m ∷ ms) l zero h e n = rw (data-none ms l (λ i d. n (suc i) (omega arith) (λ z. omega arith)), eq-eqb (m .label) l e) (or-missing (datumOf (m .first)))
+data-at (m ∷ ms) l zero h e n = rw (data-none ms l (λ i d. n (suc i) (omega arith) (λ z. omega arith)), eq-eqb (m .label) l e) (or-missing (datumFrom (m .first)))
 data-at (m ∷ ms) l (suc p) h e n = rw (ne-eqb (m .label) l (n 0 (omega arith) (λ z. omega arith))) (data-at ms l p (omega arith) e (λ i c d. n (suc i) (omega arith) (λ z. d (omega arith))))
 
 -- by halves, where labels rise: all before are below, none from there on is
 pub record Bound (w : List ℕ) (l n p : ℕ) : Type 0 where
   pub within : p ≤ n
-  pub before : (i : ℕ) → i < p → labelOf w i < l
-  pub from : (i : ℕ) → p ≤ i → i < n → l ≤ labelOf w i
+  pub before : (i : ℕ) → i < p → markLabel w i < l
+  pub from : (i : ℕ) → p ≤ i → i < n → l ≤ markLabel w i
 
-seek-bound : (w : List ℕ) (l n lo hi f : ℕ) → ((i j : ℕ) → i < j → j < n → labelOf w i < labelOf w j) → lo ≤ hi → hi ≤ n → hi - lo ≤ f
-    → ((i : ℕ) → i < lo → labelOf w i < l) → ((i : ℕ) → hi ≤ i → i < n → l ≤ labelOf w i) → Bound w l n (seek w l lo hi f)
-unfolding seek
+seek-bound : (w : List ℕ) (l n lo hi f : ℕ) → ((i j : ℕ) → i < j → j < n → markLabel w i < markLabel w j) → lo ≤ hi → hi ≤ n → hi - lo ≤ f
+    → ((i : ℕ) → i < lo → markLabel w i < l) → ((i : ℕ) → hi ≤ i → i < n → l ≤ markLabel w i) → Bound w l n (seekLabel w l lo hi f)
+unfolding seekLabel
 seek-bound w l n lo hi zero r a b c d e = record { within = omega arith; before = d; from = λ i h. e i (omega arith) }
 seek-bound w l n lo hi (suc f) r a b c d e =
-    go (decLt lo hi) (decLt (labelOf w (middle lo hi)) l)
+    go (decLt lo hi) (decLt (markLabel w (middle lo hi)) l)
     (λ u v. seek-bound w l n (middle lo hi + 1) hi f r (omega arith) b (omega arith) v e)
     (λ u v. seek-bound w l n lo (middle lo hi) f r (omega arith) (omega arith) (omega arith) d v)
   where
-    up : labelOf w (middle lo hi) < l → middle lo hi < n → Dec (lo < hi) → (i : ℕ) → i < middle lo hi + 1 → labelOf w i < l
+    up : markLabel w (middle lo hi) < l → middle lo hi < n → Dec (lo < hi) → (i : ℕ) → i < middle lo hi + 1 → markLabel w i < l
     up h k q i g = pass (decLt i (middle lo hi))
       where
-        pass : Dec (i < middle lo hi) → labelOf w i < l
+        pass : Dec (i < middle lo hi) → markLabel w i < l
         pass (yes z) = let y = r i (middle lo hi) z k in omega arith
         pass (no z) = let y : i ≡ middle lo hi = omega arith in rw y h
 
-    down : l ≤ labelOf w (middle lo hi) → (i : ℕ) → middle lo hi ≤ i → i < n → l ≤ labelOf w i
+    down : l ≤ markLabel w (middle lo hi) → (i : ℕ) → middle lo hi ≤ i → i < n → l ≤ markLabel w i
     down h i g k = pass (decLt (middle lo hi) i)
       where
-        pass : Dec (middle lo hi < i) → l ≤ labelOf w i
+        pass : Dec (middle lo hi < i) → l ≤ markLabel w i
         pass (yes z) = let y = r (middle lo hi) i z k in omega arith
         pass (no z) = let y : i ≡ middle lo hi = omega arith in rw y h
 
-    go : Dec (lo < hi) → Dec (labelOf w (middle lo hi) < l)
-        → (lo < hi → ((i : ℕ) → i < middle lo hi + 1 → labelOf w i < l) → Bound w l n (seek w l (middle lo hi + 1) hi f))
-        → (lo < hi → ((i : ℕ) → middle lo hi ≤ i → i < n → l ≤ labelOf w i) → Bound w l n (seek w l lo (middle lo hi) f))
-        → Bound w l n (pick (ltb lo hi) (pick (ltb (labelOf w (middle lo hi)) l) (seek w l (middle lo hi + 1) hi f) (seek w l lo (middle lo hi) f)) lo)
-    go (yes u) (yes v) p q = rw (lt-ltb lo hi u, lt-ltb (labelOf w (middle lo hi)) l v) (p u (up v (omega arith) (yes u)))
-    go (yes u) (no v) p q = rw (lt-ltb lo hi u, le-ltb (labelOf w (middle lo hi)) l (omega arith)) (q u (down (omega arith)))
+    go : Dec (lo < hi) → Dec (markLabel w (middle lo hi) < l)
+        → (lo < hi → ((i : ℕ) → i < middle lo hi + 1 → markLabel w i < l) → Bound w l n (seekLabel w l (middle lo hi + 1) hi f))
+        → (lo < hi → ((i : ℕ) → middle lo hi ≤ i → i < n → l ≤ markLabel w i) → Bound w l n (seekLabel w l lo (middle lo hi) f))
+        → Bound w l n (pick (ltb lo hi) (pick (ltb (markLabel w (middle lo hi)) l) (seekLabel w l (middle lo hi + 1) hi f) (seekLabel w l lo (middle lo hi) f)) lo)
+    go (yes u) (yes v) p q = rw (lt-ltb lo hi u, lt-ltb (markLabel w (middle lo hi)) l v) (p u (up v (omega arith) (yes u)))
+    go (yes u) (no v) p q = rw (lt-ltb lo hi u, le-ltb (markLabel w (middle lo hi)) l (omega arith)) (q u (down (omega arith)))
     go (no u) v p q = rw (le-ltb lo hi (omega arith)) (record { within = omega arith; before = d; from = λ i h. e i (omega arith) })
 
 module _ (ms : List Mark) (zs w : List ℕ) (e : w ≡ wordsOf markWords ms ++ zs) (l : ℕ) where
-  label-is : (i : ℕ) → i < length ms → labelOf w i ≡ getD ms i noMark .label
+  label-is : (i : ℕ) → i < length ms → markLabel w i ≡ getD ms i noMark .label
   label-is i h = rw e (mark-at ms zs i h .0)
 
-  bound : rise ms ≡ true → Bound w l (length ms) (seek w l 0 (length ms) (length ms))
+  bound : rise ms ≡ true → Bound w l (length ms) (seekLabel w l 0 (length ms) (length ms))
   bound r = seek-bound w l (length ms) 0 (length ms) (length ms)
       (λ i j h k. let y = rise-lt ms i j r h k in omega (arith, label-is i (omega arith), label-is j k)) (omega arith) (omega arith) (omega arith) (λ i h. absurd (omega arith)) (λ i h k. absurd (omega arith))
 
   -- what stands at the bound: the label, and only there; or nowhere
-  only : (p : ℕ) → rise ms ≡ true → p < length ms → labelOf w p ≡ l → (i : ℕ) → i < length ms → (i ≡ p → ⊥) → getD ms i noMark .label ≡ l → ⊥
+  only : (p : ℕ) → rise ms ≡ true → p < length ms → markLabel w p ≡ l → (i : ℕ) → i < length ms → (i ≡ p → ⊥) → getD ms i noMark .label ≡ l → ⊥
   only p r d z i h k q = go (decLt i p)
     where
       go : Dec (i < p) → ⊥
@@ -218,7 +218,7 @@ module _ (ms : List Mark) (zs w : List ℕ) (e : w ≡ wordsOf markWords ms ++ z
           other (yes u) = u
           other (no u) = absurd (k (omega arith))
 
-  absent : (p : ℕ) → rise ms ≡ true → Bound w l (length ms) p → p < length ms → l < labelOf w p → (i : ℕ) → i < length ms → getD ms i noMark .label ≡ l → ⊥
+  absent : (p : ℕ) → rise ms ≡ true → Bound w l (length ms) p → p < length ms → l < markLabel w p → (i : ℕ) → i < length ms → getD ms i noMark .label ≡ l → ⊥
   absent p r b d z i h q = go (decLt i p)
     where
       go : Dec (i < p) → ⊥
@@ -234,39 +234,39 @@ module _ (ms : List Mark) (zs w : List ℕ) (e : w ≡ wordsOf markWords ms ++ z
 
   pub sorted-target-is : rise ms ≡ true → sortedTarget w l (length ms) ≡ addrOf ms l
   unfolding sortedTarget
-  sorted-target-is r = go (seek w l 0 (length ms) (length ms)) (bound r) (decLt (seek w l 0 (length ms) (length ms)) (length ms)) (decLt l (labelOf w (seek w l 0 (length ms) (length ms))))
+  sorted-target-is r = go (seekLabel w l 0 (length ms) (length ms)) (bound r) (decLt (seekLabel w l 0 (length ms) (length ms)) (length ms)) (decLt l (markLabel w (seekLabel w l 0 (length ms) (length ms))))
     where
-      go : (p : ℕ) → Bound w l (length ms) p → Dec (p < length ms) → Dec (l < labelOf w p)
-          → pick (ltb p (length ms)) (pick (eqb (labelOf w p) l) (found (getD w (3 * p + 1) 0)) missing) missing ≡ addrOf ms l
+      go : (p : ℕ) → Bound w l (length ms) p → Dec (p < length ms) → Dec (l < markLabel w p)
+          → pick (ltb p (length ms)) (pick (eqb (markLabel w p) l) (found (getD w (3 * p + 1) 0)) missing) missing ≡ addrOf ms l
       go p b (no d) u = rw (le-ltb p (length ms) (omega arith)) (sym (addr-none ms l (beyond p b (omega arith))))
-      go p b (yes d) (yes u) = rw (lt-ltb p (length ms) d, ne-eqb (labelOf w p) l (λ z. omega arith)) (sym (addr-none ms l (absent p r b d u)))
+      go p b (yes d) (yes u) = rw (lt-ltb p (length ms) d, ne-eqb (markLabel w p) l (λ z. omega arith)) (sym (addr-none ms l (absent p r b d u)))
       go p b (yes d) (no u) =
-          let z : labelOf w p ≡ l = omega (arith, b .from p (omega arith) d) in
+          let z : markLabel w p ≡ l = omega (arith, b .from p (omega arith) d) in
           let a : getD w (3 * p + 1) 0 ≡ getD ms p noMark .addr = rw e (mark-at ms zs p d .1) in
-          rw (lt-ltb p (length ms) d, eq-eqb (labelOf w p) l z, a) (sym (addr-at ms l p d (sym (label-is p d) ∙ z) (λ i h k. only p r d z i k (λ q. omega arith))))
+          rw (lt-ltb p (length ms) d, eq-eqb (markLabel w p) l z, a) (sym (addr-at ms l p d (sym (label-is p d) ∙ z) (λ i h k. only p r d z i k (λ q. omega arith))))
 
   pub sorted-start-is : rise ms ≡ true → sortedStart w l (length ms) ≡ dataOf ms l
   unfolding sortedStart
-  sorted-start-is r = go (seek w l 0 (length ms) (length ms)) (bound r) (decLt (seek w l 0 (length ms) (length ms)) (length ms)) (decLt l (labelOf w (seek w l 0 (length ms) (length ms))))
+  sorted-start-is r = go (seekLabel w l 0 (length ms) (length ms)) (bound r) (decLt (seekLabel w l 0 (length ms) (length ms)) (length ms)) (decLt l (markLabel w (seekLabel w l 0 (length ms) (length ms))))
     where
       room : (p : ℕ) → p < length ms → p < length w / 3
       room p d = omega (arith, ap length e, length-append (wordsOf markWords ms) zs, length-marks ms)
 
-      go : (p : ℕ) → Bound w l (length ms) p → Dec (p < length ms) → Dec (l < labelOf w p)
-          → pick (ltb p (length ms)) (datumOf (datumAt w l p)) missing ≡ dataOf ms l
+      go : (p : ℕ) → Bound w l (length ms) p → Dec (p < length ms) → Dec (l < markLabel w p)
+          → pick (ltb p (length ms)) (datumFrom (markDatum w l p)) missing ≡ dataOf ms l
       go p b (no d) u = rw (le-ltb p (length ms) (omega arith)) (sym (data-none ms l (beyond p b (omega arith))))
       go p b (yes d) (yes u) =
           let a = mark-at ms zs p d in
-          let k : datumAt w l p ≡ pick (eqb (getD ms p noMark .label) l) (getD ms p noMark .first) 0 = datum-is w l p (getD ms p noMark) (rw e (a .0)) (rw e (a .2)) (room p d) in
+          let k : markDatum w l p ≡ pick (eqb (getD ms p noMark .label) l) (getD ms p noMark .first) 0 = datum-is w l p (getD ms p noMark) (rw e (a .0)) (rw e (a .2)) (room p d) in
           rw (lt-ltb p (length ms) d, k, ne-eqb (getD ms p noMark .label) l (λ z. omega (arith, label-is p d))) (sym (data-none ms l (absent p r b d u)))
       go p b (yes d) (no u) =
-          let z : labelOf w p ≡ l = omega (arith, b .from p (omega arith) d) in
+          let z : markLabel w p ≡ l = omega (arith, b .from p (omega arith) d) in
           let a = mark-at ms zs p d in
           let y : getD ms p noMark .label ≡ l = sym (label-is p d) ∙ z in
-          let k : datumAt w l p ≡ pick (eqb (getD ms p noMark .label) l) (getD ms p noMark .first) 0 = datum-is w l p (getD ms p noMark) (rw e (a .0)) (rw e (a .2)) (room p d) in
+          let k : markDatum w l p ≡ pick (eqb (getD ms p noMark .label) l) (getD ms p noMark .first) 0 = datum-is w l p (getD ms p noMark) (rw e (a .0)) (rw e (a .2)) (room p d) in
           rw (lt-ltb p (length ms) d, k, eq-eqb (getD ms p noMark .label) l y) (sym (data-at ms l p d y (only p r d z)))
 
-  count-is : (n : ℕ) → n ≡ length ms → marked w n ≡ length ms
+  count-is : (n : ℕ) → n ≡ length ms → markedLines w n ≡ length ms
   count-is n h = omega (arith, ap length e, length-append (wordsOf markWords ms) zs, length-marks ms)
 
   -- The searches are those of the rules: by halves where labels rise, one by one in any case.

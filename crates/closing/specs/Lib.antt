@@ -1,2 +1,2 @@
 pub mod MarkWords
-pub mod Marked
+pub mod MarksIn

@@ -1,7 +1,13 @@
 // Closing up what is the recorder's: the WHILEs, the delays, End.
+use recorder::codegen::A;
+use recorder::codegen::B;
+use recorder::codegen::ENTRY;
+use recorder::codegen::EXTRA;
+use recorder::codegen::RANGE;
+use recorder::codegen::RECORD;
 use recorder::codegen::St;
 use recorder::codegen::least;
-use recorder::codegen::list_room;
+use recorder::codegen::most_records;
 use recorder::codegen::put;
 use recorder::codegen::put_note;
 use recorder::codegen::set_a;
@@ -16,7 +22,8 @@ ghost use Prim.Native.Nat.{_+_, _*_, _≤_, _<_, min};
 ghost use lib.ListN.{getD};
 ghost use Rattle.recorder.specs.Word.{wordOf};
 ghost use Rattle.recorder.specs.Closing.{isWend, isZero, isOne, isStart, isEnd, isFor, isNextOf, roundUp};
-ghost use Rattle.recorder.specs.Mem.{listRoom, noteList, noteSt, recOf, setB, atRec, whileList, whileTop, whilesFrom, topFrom, passed, openFrom, patchWhiles, setHead, rewrite, unitOf, wholeAt, delayAt, steppedAt, delayedAt, steppedDelayedAt, delayList, convertDelays, cleanUpAll, sigilOf, unlinkAt, unlinked};
+ghost use Rattle.recorder.specs.Layout.{recSize, rangeWordAt, mostRecords};
+ghost use Rattle.recorder.specs.Mem.{noteList, noteSt, recOf, setB, atRec, whileList, whileTop, whilesFrom, topFrom, passed, openFrom, patchWhiles, setHead, rewrite, unitOf, wholeAt, delayAt, steppedAt, delayedAt, steppedDelayedAt, delayList, convertDelays, cleanUpAll, sigilOf, unlinkAt, unlinked};
 
 // A number: m × 2^(e−160), zero at e 0.
 pub struct Number {
@@ -27,26 +34,26 @@ pub struct Number {
 fn call_of(list: &[u32], k: u32) -> u32
     ensures { λ r. ⌜ r ≡ recOf (now (list .entry)) k .call ⌝ }
 {
-    kind_at(list, 5 * (k as usize))
+    kind_at(list, RECORD * (k as usize))
 }
 
 fn a_of(list: &[u32], k: u32) -> u32
     ensures { λ r. ⌜ r ≡ recOf (now (list .entry)) k .a ⌝ }
 {
-    word_at(list, 5 * (k as usize) + 2)
+    word_at(list, RECORD * (k as usize) + A)
 }
 
 fn b_of(list: &[u32], k: u32) -> u32
     ensures { λ r. ⌜ r ≡ recOf (now (list .entry)) k .b ⌝ }
 {
-    word_at(list, 5 * (k as usize) + 3)
+    word_at(list, RECORD * (k as usize) + B)
 }
 
 // The records that the list has: fewer than 65,536.
 fn present_of(words: usize, records: u32) -> u16
-    ensures { λ r. ⌜ r ≡ min records (listRoom words) ⌝ }
+    ensures { λ r. ⌜ r ≡ min records (mostRecords words) ⌝ }
 {
-    let n = list_room(words);
+    let n = most_records(words);
     if records < n {
         records as u16
     } else {
@@ -58,8 +65,8 @@ fn set_b_at(list: &mut [u32], k: u32, v: u32)
     ensures { λ r. ⌜ now (list .exit) ≡ atRec (setB v) (now (list .entry)) k ⌝ }
 {
     let i = k as usize;
-    if i < list.len() / 5 {
-        let from = 5 * i;
+    if i < list.len() / RECORD {
+        let from = RECORD * i;
         set_b(&mut list[from..], v);
     }
 }
@@ -110,11 +117,11 @@ fn link_whiles(list: &mut [u32], n: u16) -> u32
 
 // The note on a WHILE without WEND: its record's line and range.
 fn open_note(list: &[u32], notes: &mut [u32], st: St, w: u32) -> St
-    ensures { λ r. ⌜ (now (notes .exit) ≡ noteList (now (notes .entry)) st (wordOf 13 (getD (now (list .entry)) (5 * w) 0)) (getD (now (list .entry)) (5 * w + 1) 0) 1) × (r ≡ noteSt (now (notes .entry)) st) ⌝ }
+    ensures { λ r. ⌜ (now (notes .exit) ≡ noteList (now (notes .entry)) st (wordOf 13 (getD (now (list .entry)) (recSize * w) 0)) (getD (now (list .entry)) (recSize * w + rangeWordAt) 0) 1) × (r ≡ noteSt (now (notes .entry)) st) ⌝ }
 {
-    let from = 5 * (w as usize);
+    let from = RECORD * (w as usize);
     let h = word_of(13, word_at(list, from));
-    put_note(notes, st, h, word_at(list, from + 1), 1)
+    put_note(notes, st, h, word_at(list, from + RANGE), 1)
 }
 
 fn open_whiles(list: &mut [u32], notes: &mut [u32], st: St, top: u32, n: u16) -> St
@@ -167,8 +174,8 @@ fn rewrite_at(list: &mut [u32], k: u32, call: u8, a: u32, b: u32, c: u32)
     ensures { λ r. ⌜ now (list .exit) ≡ atRec (rewrite call a b c) (now (list .entry)) k ⌝ }
 {
     let i = k as usize;
-    if i < list.len() / 5 {
-        let from = 5 * i;
+    if i < list.len() / RECORD {
+        let from = RECORD * i;
         rewrite_part(&mut list[from..], call, a, b, c);
     }
 }
@@ -393,10 +400,10 @@ fn sigil_of(c: u32) -> u32
 fn unlink_at(book: &mut [u32], k: usize)
     ensures { λ r. ⌜ now (book .exit) ≡ unlinkAt (now (book .entry)) k ⌝ }
 {
-    if k < book.len() / 4 {
-        let i = 4 * k;
+    if k < book.len() / ENTRY {
+        let i = ENTRY * k;
         if kind_at(book, i) == 50 {
-            book[i + 3] = sigil_of(word_at(book, i + 3) % 4);
+            book[i + EXTRA] = sigil_of(word_at(book, i + EXTRA) % 4);
         }
     }
 }
@@ -405,7 +412,7 @@ fn unlink_at(book: &mut [u32], k: usize)
 pub fn unlink_names(book: &mut [u32], st: St)
     ensures { λ r. ⌜ now (book .exit) ≡ unlinked (now (book .entry)) st ⌝ }
 {
-    let end = least(st.entries, book.len() / 4);
+    let end = least(st.entries, book.len() / ENTRY);
     let mut k: usize = 0;
     while k < end {
         unlink_at(book, k);

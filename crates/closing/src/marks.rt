@@ -6,7 +6,7 @@ use recorder::label::DatumIndex;
 use recorder::label::Label;
 use recorder::word::word_at;
 ghost use mathlib.Core.Path.{_≡_};
-ghost use Rattle.closing.specs.MarkWords.{markList, markCount, marked, targetOf, startOf, seek, lastOf, datumAt, firstDatumOf, sortedTarget, sortedStart, findLabel, findDatum};
+ghost use Rattle.closing.specs.MarkWords.{markList, markCount, markedLines, targetFound, startFound, seekLabel, lastOf, markDatum, firstDatumOf, sortedTarget, sortedStart, findLabel, findDatum};
 
 // A target: the address of a line, or the label is nowhere.
 pub enum Target {
@@ -39,7 +39,7 @@ pub fn put_mark(work: &mut [u32], n: usize, label: Label, addr: Addr, first: u32
 
 // Where labels rise: the first line whose label is not below this one.
 fn seek_label(work: &[u32], n: usize, label: u32) -> usize
-    ensures { λ r. ⌜ r ≡ seek (now (work .entry)) label 0 (marked (now (work .entry)) n) (marked (now (work .entry)) n) ⌝ }
+    ensures { λ r. ⌜ r ≡ seekLabel (now (work .entry)) label 0 (markedLines (now (work .entry)) n) (markedLines (now (work .entry)) n) ⌝ }
 {
     let mut lo: usize = 0;
     let mut hi = least(n, work.len() / 3);
@@ -56,7 +56,7 @@ fn seek_label(work: &[u32], n: usize, label: u32) -> usize
 
 // "A target is the address of the last line with that label": from the end.
 fn last_of(work: &[u32], n: usize, label: u32) -> Target
-    ensures { λ r. ⌜ r ≡ targetOf (lastOf (now (work .entry)) label (marked (now (work .entry)) n)) ⌝ }
+    ensures { λ r. ⌜ r ≡ targetFound (lastOf (now (work .entry)) label (markedLines (now (work .entry)) n)) ⌝ }
 {
     let mut k = least(n, work.len() / 3);
     while 0 < k {
@@ -69,7 +69,7 @@ fn last_of(work: &[u32], n: usize, label: u32) -> Target
 }
 
 fn sorted_target(work: &[u32], n: usize, label: u32) -> Target
-    ensures { λ r. ⌜ r ≡ targetOf (sortedTarget (now (work .entry)) label (marked (now (work .entry)) n)) ⌝ }
+    ensures { λ r. ⌜ r ≡ targetFound (sortedTarget (now (work .entry)) label (markedLines (now (work .entry)) n)) ⌝ }
 {
     let p = seek_label(work, n, label);
     if least(n, work.len() / 3) <= p {
@@ -82,7 +82,7 @@ fn sorted_target(work: &[u32], n: usize, label: u32) -> Target
 }
 
 pub fn find_label(work: &[u32], n: usize, label: Label, rising: bool) -> Target
-    ensures { λ r. ⌜ r ≡ targetOf (findLabel (now (work .entry)) n (label .0) rising) ⌝ }
+    ensures { λ r. ⌜ r ≡ targetFound (findLabel (now (work .entry)) n (label .0) rising) ⌝ }
 {
     let l = label.0 as u32;
     if rising {
@@ -93,8 +93,8 @@ pub fn find_label(work: &[u32], n: usize, label: Label, rising: bool) -> Target
 }
 
 // The first datum plus 1 of a line, 0 if it has none or another label.
-fn datum_at(work: &[u32], k: usize, label: u32) -> u32
-    ensures { λ r. ⌜ r ≡ datumAt (now (work .entry)) label k ⌝ }
+fn mark_datum(work: &[u32], k: usize, label: u32) -> u32
+    ensures { λ r. ⌜ r ≡ markDatum (now (work .entry)) label k ⌝ }
 {
     if work.len() / 3 <= k {
         return 0;
@@ -107,13 +107,13 @@ fn datum_at(work: &[u32], k: usize, label: u32) -> u32
 
 // "A DATA index is the first DATA of that label": from the start.
 fn first_datum_of(work: &[u32], n: usize, label: u32) -> Start
-    ensures { λ r. ⌜ r ≡ startOf (firstDatumOf (now (work .entry)) label 0 (marked (now (work .entry)) n)) ⌝ }
+    ensures { λ r. ⌜ r ≡ startFound (firstDatumOf (now (work .entry)) label 0 (markedLines (now (work .entry)) n)) ⌝ }
 {
     let mut k: usize = 0;
     let mut left = least(n, work.len() / 3);
     while 0 < left {
         left -= 1;
-        let d = datum_at(work, k, label);
+        let d = mark_datum(work, k, label);
         if d != 0 {
             return Start::From(DatumIndex(d - 1));
         }
@@ -123,13 +123,13 @@ fn first_datum_of(work: &[u32], n: usize, label: u32) -> Start
 }
 
 fn sorted_start(work: &[u32], n: usize, label: u32) -> Start
-    ensures { λ r. ⌜ r ≡ startOf (sortedStart (now (work .entry)) label (marked (now (work .entry)) n)) ⌝ }
+    ensures { λ r. ⌜ r ≡ startFound (sortedStart (now (work .entry)) label (markedLines (now (work .entry)) n)) ⌝ }
 {
     let p = seek_label(work, n, label);
     if least(n, work.len() / 3) <= p {
         return Start::NoData;
     }
-    let d = datum_at(work, p, label);
+    let d = mark_datum(work, p, label);
     if d == 0 {
         return Start::NoData;
     }
@@ -137,7 +137,7 @@ fn sorted_start(work: &[u32], n: usize, label: u32) -> Start
 }
 
 pub fn find_datum(work: &[u32], n: usize, label: Label, rising: bool) -> Start
-    ensures { λ r. ⌜ r ≡ startOf (findDatum (now (work .entry)) n (label .0) rising) ⌝ }
+    ensures { λ r. ⌜ r ≡ startFound (findDatum (now (work .entry)) n (label .0) rising) ⌝ }
 {
     let l = label.0 as u32;
     if rising {

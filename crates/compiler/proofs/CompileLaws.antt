@@ -14,13 +14,14 @@ use Rattle.sheet.specs.declared.form.Checked.the-variants.{Accepted, TooLong, S
 use Rattle.sheet.specs.declared.form.Offence.the-variants.{BadWord, TooDeep, BadLength, BadRange, Fseek}
 use Rattle.sheet.specs.Check.{checked, refusalNumber, refusalPlace}
 use Rattle.walk.proofs.LinesFit.{lines-fit}
-use Rattle.closing.specs.Marked.{MarksIn}
+use Rattle.closing.specs.MarksIn.{MarksIn}
 use Rattle.program.specs.Line.{Programmed}
 use Rattle.rules.specs.Program.{Lines, closeUp}
-use Rattle.rules.specs.Outcome.{Outcome, Lengths, lengths, refused, mostRecords, finished, sized, outcomeBy, outcome}
-use Rattle.rules.specs.Held.{heldLines, heldOutcome}
-use Rattle.rules.proofs.SimOutcome.{held-outcome}
-use Rattle.compiler.specs.Answered.{outcomeOf, sizedHeld}
+use Rattle.recorder.specs.Layout.{mostRecords}
+use Rattle.rules.specs.Outcome.{Outcome, Lengths, lengths, refused, finished, sized, outcomeBy, outcome}
+use Rattle.rules.specs.MemAnswer.{memSized}
+use Rattle.rules.proofs.SimOutcome.{memLines, memOutcome, held-outcome}
+use Rattle.compiler.specs.Answered.{outcomeOf}
 
 -- refusals 1 to 8
 refused-by : (c : Checked) (s t : List ℕ) (L : Lengths) → (refusalNumber c ≡ 0 → ⊥) → refused (refusalNumber c) (refusalPlace c) L ≡ outcomeBy c s t L
@@ -61,24 +62,24 @@ unfolding outcome
 accepted-is s t L c k o hc hk d e = rw (good s t (L .work) c k hc hk d) e
 
 -- the sizes
-pub notes-full : (L : Lengths) (m : Mem) (o : Outcome) → m .st .nfull ≡ true → o ≡ refused 10 0 L → o ≡ sizedHeld L m
+pub notes-full : (L : Lengths) (m : Mem) (o : Outcome) → m .st .nfull ≡ true → o ≡ refused 10 0 L → o ≡ memSized L m
 notes-full L m o h e = rw h e
 
-pub book-full : (L : Lengths) (m : Mem) (o : Outcome) → m .st .nfull ≡ false → m .st .bfull ≡ true → o ≡ refused 11 0 L → o ≡ sizedHeld L m
+pub book-full : (L : Lengths) (m : Mem) (o : Outcome) → m .st .nfull ≡ false → m .st .bfull ≡ true → o ≡ refused 11 0 L → o ≡ memSized L m
 book-full L m o h i e = rw (h, i) e
 
 pub all-fit : (L : Lengths) (l n b w : List ℕ) (st : St) → st .nfull ≡ false → st .bfull ≡ false → w ≡ replicate (L .work) 0
-    → outcomeOf (record { refusal = 0; place = 0; records = st .records; notes = st .notes; entries = st .entries }) l n b w ≡ sizedHeld L (mem l n b st)
+    → outcomeOf (record { refusal = 0; place = 0; records = st .records; notes = st .notes; entries = st .entries }) l n b w ≡ memSized L (mem l n b st)
 all-fit L l n b w st h i e = rw (h, i, e)
 
 -- 9, known once the lines are compiled
-list-full : (L : Lengths) (m₁ m₂ : Mem) (o : Outcome) → m₁ .st .lfull ≡ true → o ≡ refused 9 0 L → o ≡ heldOutcome L m₁ m₂
+list-full : (L : Lengths) (m₁ m₂ : Mem) (o : Outcome) → m₁ .st .lfull ≡ true → o ≡ refused 9 0 L → o ≡ memOutcome L m₁ m₂
 list-full L m₁ m₂ o h e = rw h e
 
-no-room : (L : Lengths) (m₁ m₂ : Mem) (o : Outcome) → m₁ .st .lfull ≡ false → mostRecords (L .list) ≤ m₁ .st .records → o ≡ refused 9 0 L → o ≡ heldOutcome L m₁ m₂
+no-room : (L : Lengths) (m₁ m₂ : Mem) (o : Outcome) → m₁ .st .lfull ≡ false → mostRecords (L .list) ≤ m₁ .st .records → o ≡ refused 9 0 L → o ≡ memOutcome L m₁ m₂
 no-room L m₁ m₂ o h i e = rw (h, le-leb (mostRecords (L .list)) (m₁ .st .records) i) e
 
-room : (L : Lengths) (m₁ m₂ : Mem) (o : Outcome) → m₁ .st .lfull ≡ false → m₁ .st .records < mostRecords (L .list) → o ≡ sizedHeld L m₂ → o ≡ heldOutcome L m₁ m₂
+room : (L : Lengths) (m₁ m₂ : Mem) (o : Outcome) → m₁ .st .lfull ≡ false → m₁ .st .records < mostRecords (L .list) → o ≡ memSized L m₂ → o ≡ memOutcome L m₁ m₂
 room L m₁ m₂ o h i e = rw (h, lt-leb (mostRecords (L .list)) (m₁ .st .records) i) e
 
 -- the lengths that stay
@@ -95,45 +96,45 @@ zeros l n b st e hl hn hb =
     ap (λ (x : List ℕ). mem x n b st) hl ∙ ap (λ (x : List ℕ). mem (replicate (length l) 0) x b st) hn
     ∙ ap (λ (x : List ℕ). mem (replicate (length l) 0) (replicate (length n) 0) x st) hb ∙ ap (λ (x : St). mem (replicate (length l) 0) (replicate (length n) 0) (replicate (length b) 0) x) e
 
-pub record Held (s t : List ℕ) (L : Lengths) (m₁ : Mem) (w₁ : List ℕ) (k : ℕ) (rising : Bool) : Type 0 where
-  pub state : m₁ ≡ heldLines s t L .state
-  pub marks : MarksIn w₁ k rising (heldLines s t L .marks)
+pub record FromZeros (s t : List ℕ) (L : Lengths) (m₁ : Mem) (w₁ : List ℕ) (k : ℕ) (rising : Bool) : Type 0 where
+  pub state : m₁ ≡ memLines s t L .state
+  pub marks : MarksIn w₁ k rising (memLines s t L .marks)
 
-pub held : (s t l n b w : List ℕ) (st : St) (m₁ : Mem) (w₁ : List ℕ) (k : ℕ) (rising : Bool) → st ≡ nothing → l ≡ replicate (length l) 0 → n ≡ replicate (length n) 0 → b ≡ replicate (length b) 0
-    → Programmed s t (mem l n b st) m₁ w₁ k rising → Held s t (lengths (length l) (length n) (length b) (length w)) m₁ w₁ k rising
-held s t l n b w st m₁ w₁ k rising e hl hn hb p =
-    let q : Programmed s t (mem (replicate (length l) 0) (replicate (length n) 0) (replicate (length b) 0) nothing) m₁ w₁ k rising = rw (zeros l n b st e hl hn hb) at p in
-    record { state = q .state; marks = q .marks }
+pub from-zeros : (s t l n b w : List ℕ) (st : St) (m₁ : Mem) (w₁ : List ℕ) (k : ℕ) (rising : Bool) → st ≡ nothing → l ≡ replicate (length l) 0 → n ≡ replicate (length n) 0 → b ≡ replicate (length b) 0
+    → Programmed s t (mem l n b st) m₁ w w₁ k rising → w ≡ replicate (length w) 0 → 3 * payloadAt s 0 ≤ length w → FromZeros s t (lengths (length l) (length n) (length b) (length w)) m₁ w₁ k rising
+from-zeros s t l n b w st m₁ w₁ k rising e hl hn hb p hw hs =
+    let q : Programmed s t (mem (replicate (length l) 0) (replicate (length n) 0) (replicate (length b) 0) nothing) m₁ w w₁ k rising = rw (zeros l n b st e hl hn hb) at p in
+    record { state = q .state; marks = q .marks hw hs }
 
 -- the three ways out of compile_accepted; i to h are the lengths of list, notes, book and work on the way
 pub whole-full : (s t l n b w : List ℕ) (i j k h : ℕ) (m₁ : Mem) (w₁ : List ℕ) (c : ℕ) (rising : Bool) (o : Outcome)
-    → i ≡ length l → j ≡ length n → k ≡ length b → h ≡ length w → Held s t (lengths (length l) (length n) (length b) (length w)) m₁ w₁ c rising → m₁ .st .lfull ≡ true
+    → i ≡ length l → j ≡ length n → k ≡ length b → h ≡ length w → FromZeros s t (lengths (length l) (length n) (length b) (length w)) m₁ w₁ c rising → m₁ .st .lfull ≡ true
     → o ≡ refused 9 0 (lengths i j k h) → o ≡ sized (finished s t) (lengths (length l) (length n) (length b) (length w))
 whole-full s t l n b w i j k h m₁ w₁ c rising o hl hn hb hw x f e =
     let L = lengths (length l) (length n) (length b) (length w) in
-    list-full L (heldLines s t L .state) (closeUp (memR t) (heldLines s t L)) o (rw (x .state) at f)
+    list-full L (memLines s t L .state) (closeUp (memR t) (memLines s t L)) o (rw (x .state) at f)
     (e ∙ ap (λ (y : Lengths). refused 9 0 y) (same-lengths l n b w i j k h hl hn hb hw)) ∙ held-outcome s t L
 
 pub whole-no-room : (s t l n b w : List ℕ) (i j k h : ℕ) (m₁ : Mem) (w₁ : List ℕ) (c : ℕ) (rising : Bool) (r : ℕ) (o : Outcome)
-    → i ≡ length l → j ≡ length n → k ≡ length b → h ≡ length w → Held s t (lengths (length l) (length n) (length b) (length w)) m₁ w₁ c rising → m₁ .st .lfull ≡ false
+    → i ≡ length l → j ≡ length n → k ≡ length b → h ≡ length w → FromZeros s t (lengths (length l) (length n) (length b) (length w)) m₁ w₁ c rising → m₁ .st .lfull ≡ false
     → r ≡ mostRecords i → r ≤ m₁ .st .records → o ≡ refused 9 0 (lengths i j k h) → o ≡ sized (finished s t) (lengths (length l) (length n) (length b) (length w))
 whole-no-room s t l n b w i j k h m₁ w₁ c rising r o hl hn hb hw x f hr g e =
     let L = lengths (length l) (length n) (length b) (length w) in
     let y : mostRecords (length l) ≤ m₁ .st .records = rw (hr, hl) at g in
-    no-room L (heldLines s t L .state) (closeUp (memR t) (heldLines s t L)) o (rw (x .state) at f) (rw (x .state) at y)
+    no-room L (memLines s t L .state) (closeUp (memR t) (memLines s t L)) o (rw (x .state) at f) (rw (x .state) at y)
     (e ∙ ap (λ (z : Lengths). refused 9 0 z) (same-lengths l n b w i j k h hl hn hb hw)) ∙ held-outcome s t L
 
 pub whole-sized : (s t l n b w l1 n1 b1 w1 l2 n2 b2 : List ℕ) (i h i2 j2 k2 : ℕ) (m₁ : Mem) (c : ℕ) (rising : Bool) (r : ℕ) (st st2 : St) (o : Outcome)
     → i ≡ length l → h ≡ length w → i2 ≡ length l → j2 ≡ length n → k2 ≡ length b
-    → m₁ ≡ mem l1 n1 b1 st → Held s t (lengths (length l) (length n) (length b) (length w)) m₁ w1 c rising → m₁ .st .lfull ≡ false → r ≡ mostRecords i → m₁ .st .records < r
+    → m₁ ≡ mem l1 n1 b1 st → FromZeros s t (lengths (length l) (length n) (length b) (length w)) m₁ w1 c rising → m₁ .st .lfull ≡ false → r ≡ mostRecords i → m₁ .st .records < r
     → ((t : List ℕ) (c′ : Lines Mem) → c′ .state ≡ mem l1 n1 b1 st → MarksIn w1 c rising (c′ .marks) → mem l2 n2 b2 st2 ≡ closeUp (memR t) c′)
-    → o ≡ sizedHeld (lengths i2 j2 k2 h) (mem l2 n2 b2 st2) → o ≡ sized (finished s t) (lengths (length l) (length n) (length b) (length w))
+    → o ≡ memSized (lengths i2 j2 k2 h) (mem l2 n2 b2 st2) → o ≡ sized (finished s t) (lengths (length l) (length n) (length b) (length w))
 whole-sized s t l n b w l1 n1 b1 w1 l2 n2 b2 i h i2 j2 k2 m₁ c rising r st st2 o hl hw hl2 hn2 hb2 hm x f hr g close e =
     let L = lengths (length l) (length n) (length b) (length w) in
     let y : m₁ .st .records < mostRecords (length l) = rw (hr, hl) at g in
-    let z : mem l2 n2 b2 st2 ≡ closeUp (memR t) (heldLines s t L) = close t (heldLines s t L) (sym (x .state) ∙ hm) (x .marks) in
-    room L (heldLines s t L .state) (closeUp (memR t) (heldLines s t L)) o (rw (x .state) at f) (rw (x .state) at y)
-    (e ∙ ap (λ (u : Lengths). sizedHeld u (mem l2 n2 b2 st2)) (same-lengths l n b w i2 j2 k2 h hl2 hn2 hb2 hw) ∙ ap (λ (u : Mem). sizedHeld L u) z) ∙ held-outcome s t L
+    let z : mem l2 n2 b2 st2 ≡ closeUp (memR t) (memLines s t L) = close t (memLines s t L) (sym (x .state) ∙ hm) (x .marks) in
+    room L (memLines s t L .state) (closeUp (memR t) (memLines s t L)) o (rw (x .state) at f) (rw (x .state) at y)
+    (e ∙ ap (λ (u : Lengths). memSized u (mem l2 n2 b2 st2)) (same-lengths l n b w i2 j2 k2 h hl2 hn2 hb2 hw) ∙ ap (λ (u : Mem). memSized L u) z) ∙ held-outcome s t L
 
 -- compile's own way on: what was cleared has its length still
 pub same-sized : (s t l n b w : List ℕ) (i j k h : ℕ) (o : Outcome) → i ≡ length l → j ≡ length n → k ≡ length b → h ≡ length w

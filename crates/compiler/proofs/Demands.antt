@@ -7,14 +7,14 @@ use native.Mathlib.Omega.{arith}
 use lib.Dec.{ltb}
 use lib.ListN.{length}
 use Rattle.recorder.specs.Word.{pick}
-use Rattle.recorder.specs.Layout.{noteSize, entrySize}
+use Rattle.recorder.specs.Layout.{noteSize, entrySize, mostRecords}
 use Rattle.sheet.specs.declared.form.Checked.{Checked}
 use Rattle.sheet.specs.declared.form.Checked.the-variants.{Accepted, TooLong, Surrogate, WorkTooShort, Offends}
 use Rattle.sheet.specs.declared.form.Offence.the-variants.{BadWord, TooDeep, BadLength, BadRange, Fseek}
 use Rattle.sheet.specs.Check.{checked, refusalPlace}
 use Rattle.sheet.specs.Tree.{programAt}
 use Rattle.walk.proofs.Within.{place-within}
-use Rattle.rules.specs.Outcome.{Outcome, Lengths, accepted, mostRecords, finished, sized, outcomeBy, outcome}
+use Rattle.rules.specs.Outcome.{Outcome, Lengths, accepted, finished, sized, outcomeBy, outcome}
 use Rattle.rules.specs.Missing.{Whole}
 use Rattle.rules.specs.Demand.{NoError}
 use Rattle.rules.proofs.Third.{third}

@@ -1,10 +1,7 @@
 -- The contract's shape for a whole call: its answer and the four buffers at the end.
 use mathlib.Core.List.{List}
 use Prim.Native.Nat.{ℕ}
-use Rattle.recorder.specs.Word.{pick}
-use Rattle.recorder.specs.Mem.{Mem}
-use Rattle.rules.specs.Outcome.{Outcome, Lengths, refused}
-use Rattle.rules.specs.Held.{heldAccepted}
+use Rattle.rules.specs.Outcome.{Outcome}
 use Rattle.compiler.specs.declared.Answer.{Answer}
 
 abbrev pub outcomeOf : Answer → List ℕ → List ℕ → List ℕ → List ℕ → Outcome
@@ -15,7 +12,3 @@ outcomeOf x l n b w = record {
   book = b;
   work = w;
 }
-
--- closed up, with all records in the list
-abbrev pub sizedHeld : Lengths → Mem → Outcome
-sizedHeld L m = pick (m .st .nfull) (refused 10 0 L) (pick (m .st .bfull) (refused 11 0 L) (heldAccepted L m))

@@ -6,7 +6,8 @@ ghost use lib.ListN.{length, replicate};
 ghost use Rattle.recorder.specs.Word.{payloadAt};
 ghost use Rattle.recorder.specs.Mem.{mem};
 ghost use Rattle.rules.specs.Outcome.{lengths, refused, finished, sized, outcome};
-ghost use Rattle.compiler.specs.Answered.{outcomeOf, sizedHeld};
+ghost use Rattle.rules.specs.MemAnswer.{memSized};
+ghost use Rattle.compiler.specs.Answered.{outcomeOf};
 
 // The refusal, 0 for none, its place in the sheet, and the numbers of records, notes and book entries.
 pub struct Answer {
@@ -49,7 +50,7 @@ fn sized_up(
     work: &mut [u32],
     st: St,
 ) -> Answer
-    ensures { λ x. ⌜ outcomeOf x (now (list .exit)) (now (notes .exit)) (now (book .exit)) (now (work .exit)) ≡ sizedHeld (lengths (length (now (list .entry))) (length (now (notes .entry))) (length (now (book .entry))) (length (now (work .entry)))) (mem (now (list .entry)) (now (notes .entry)) (now (book .entry)) st) ⌝ }
+    ensures { λ x. ⌜ outcomeOf x (now (list .exit)) (now (notes .exit)) (now (book .exit)) (now (work .exit)) ≡ memSized (lengths (length (now (list .entry))) (length (now (notes .entry))) (length (now (book .entry))) (length (now (work .entry)))) (mem (now (list .entry)) (now (notes .entry)) (now (book .entry)) st) ⌝ }
 {
     if st.nfull {
         return refuse(list, notes, book, work, 10, 0);
@@ -91,7 +92,7 @@ fn compile_accepted(
     if ps.lfull {
         return refuse(list, notes, book, work, 9, 0);
     }
-    if recorder::codegen::list_room(list.len()) <= ps.records {
+    if recorder::codegen::most_records(list.len()) <= ps.records {
         return refuse(list, notes, book, work, 9, 0);
     }
     let s = resolution::resolve::close_up(list, notes, book, work, ps, p.marks, p.rising);

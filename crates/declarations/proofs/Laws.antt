@@ -12,14 +12,14 @@ use Rattle.sheet.specs.declared.form.Shape.the-variants.{Data, Def}
 use Rattle.sheet.specs.Skip.{skipRepeat, skipList, skipFields, skipField, skipTimes, skipPair, skipItem}
 use Rattle.sheet.specs.Tree.{given, itemsAt, optAt, stmtNode, datumAt}
 use Rattle.rules.specs.declared.types.«Type».the-variants.{Real}
-use Rattle.rules.specs.Expr.{funcName}
+use Rattle.rules.specs.Expr.{optRealSym}
 use Rattle.rules.specs.Stmt.{compileStmt, compileDef, datumStart, datumLength, datumNode, compileData}
 use Rattle.nodes.specs.declared.node.OptRange.{OptRange}
 use Rattle.nodes.specs.declared.node.OptRange.the-variants.{Given, Absent}
-use Rattle.nodes.specs.Done.{named, optOf, CompiledTyped, CountAt}
+use Rattle.nodes.specs.Compiled.{named, optOf, CompiledTyped, PayloadAt}
 use Rattle.expressions.specs.Body.{Body}
 use Rattle.expressions.specs.Lists.{twoOn}
-use Rattle.expressions.proofs.Lists.{items-step, repeat-step}
+use Rattle.expressions.proofs.Lists.{items-step}
 use Rattle.declarations.specs.Parts.{Defined, datumOf, DataDone}
 
 -- DEF
@@ -44,7 +44,7 @@ pub whole-of : (s t : List ℕ) (base left at x y a e p : ℕ) (r : Range) (m m1
 whole-of s t base left at x y a e p r m m1 m2 m3 m4 ha h1 z h3 he h4 = record { place = z .place; result = rw (h4, he, h3, z .result, h1, ha) }
 
 pub at-def : (s t : List ℕ) (base left k at : ℕ) (r : Range) (o a : OptRange) (x y p q p1 : ℕ) (m m1 m2 m3 : Mem) → p ≡ next s at → optOf o ≡ optAt s (rangeAt s) at
-    → optOf a ≡ optAt s (rangeAt s) p → named m1 x ≡ funcName (memR t) t base (optOf o) m → named m2 y ≡ funcName (memR t) t base (optOf a) m1 → q ≡ next s p
+    → optOf a ≡ optAt s (rangeAt s) p → named m1 x ≡ optRealSym (memR t) t base (optOf o) m → named m2 y ≡ optRealSym (memR t) t base (optOf a) m1 → q ≡ next s p
     → Defined s t base left q (optOf o) (optOf a) r x y m2 m3 p1 → Body s t base left Def k r at m m3 p1
 unfolding stmtNode compileStmt compileDef skipFields skipField skipTimes skipPair skipItem
 at-def s t base left k at r o a x y p q p1 m m1 m2 m3 hp ho ha hx hy hq z = record {
@@ -76,15 +76,12 @@ pub step-data : (s t : List ℕ) (base n at : ℕ) (r : Range) (q f p : ℕ) (m 
     → compileData (memR t) t base (itemsAt s (datumAt s) (twoOn s) (n - 1) p) m1 ≡ compileData (memR t) t base (itemsAt s (datumAt s) (twoOn s) n at) m
 step-data s t base n at r q f p m m1 h hr hq hf hp e = rw (data-more t base s n at m h, ← hq, ← hp, ← hf, ← hr, ← e)
 
-pub step-two : (s : List ℕ) (n at q p : ℕ) → 0 < n → q ≡ next s at → p ≡ next s q → skipRepeat s (twoOn s) (n - 1) p ≡ skipRepeat s (twoOn s) n at
-step-two s n at q p h hq hp = rw (repeat-step s (twoOn s) n at h, ← hq, ← hp)
-
 pub data-done : (s t : List ℕ) (base n k at at₀ : ℕ) (m m₀ : Mem) → n ≤ 0 → skipRepeat s (twoOn s) n at ≡ skipRepeat s (twoOn s) k at₀
     → compileData (memR t) t base (itemsAt s (datumAt s) (twoOn s) n at) m ≡ compileData (memR t) t base (itemsAt s (datumAt s) (twoOn s) k at₀) m₀ → DataDone s t base at₀ k m₀ m at
 unfolding itemsAt compileData skipRepeat
 data-done s t base zero k at at₀ m m₀ h p q = record { place = p; result = q }
 data-done s t base (suc n) k at at₀ m m₀ h p q = absurd (omega arith)
 
-pub at-data : (s t : List ℕ) (base left k at : ℕ) (r : Range) (n p q : ℕ) (m m1 : Mem) → CountAt s at n p → DataDone s t base p n m m1 q → Body s t base left Data k r at m m1 q
+pub at-data : (s t : List ℕ) (base left k at : ℕ) (r : Range) (n p q : ℕ) (m m1 : Mem) → PayloadAt s at n p → DataDone s t base p n m m1 q → Body s t base left Data k r at m m1 q
 unfolding stmtNode compileStmt skipFields skipField skipTimes skipPair skipItem skipList
-at-data s t base left k at r n p q m m1 c d = record { place = rw (← c .place, ← c .count) (d .place); result = λ child. rw (← c .place, ← c .count) (d .result) }
+at-data s t base left k at r n p q m m1 c d = record { place = rw (← c .place, ← c .value) (d .place); result = λ child. rw (← c .place, ← c .value) (d .result) }

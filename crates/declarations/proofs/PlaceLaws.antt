@@ -11,7 +11,7 @@ use Rattle.sheet.specs.declared.form.Sort.the-variants.{Expr as exprSort, Place
 use Rattle.sheet.specs.declared.form.Shape.the-variants.{Dim, Field}
 use Rattle.sheet.specs.Table.{exprFields}
 use Rattle.sheet.specs.Skip.{skipNode, skipRepeat, skipList, skipFields, skipField, skipTimes, skipPair, skipItem}
-use Rattle.sheet.specs.Tree.{Expr, count, exprAt, exprNode, exprsAt, itemsAt, optAt, stmtNode, fieldSpecAt}
+use Rattle.sheet.specs.Tree.{Expr, count, exprAt, exprNode, exprsAt, itemsAt, optAt, stmtNode, fieldSpecAt, argsAt}
 use Rattle.rules.specs.declared.types.«Type».{«Type» as Ty}
 use Rattle.rules.specs.declared.types.«Type».the-variants.{Real, String}
 use Rattle.rules.specs.declared.tables.Wants.the-variants.{Every}
@@ -19,7 +19,7 @@ use Rattle.rules.specs.Expr.{compileSym, compileTyped}
 use Rattle.rules.specs.Stmt.{compileStmt, placeTyped, dimNode, dimOne, compileDim, compileFields, compileField}
 use Rattle.nodes.specs.declared.node.OptRange.{OptRange}
 use Rattle.nodes.specs.declared.node.OptRange.the-variants.{Given, Absent}
-use Rattle.nodes.specs.Done.{sym, optOf, CompiledArgs, CompiledTyped, PlaceTyped, CountAt}
+use Rattle.nodes.specs.Compiled.{sym, optOf, CompiledArgs, CompiledTyped, PlaceTyped, PayloadAt}
 use Rattle.expressions.specs.Body.{Body}
 use Rattle.expressions.proofs.Lists.{exprs-step, items-step, repeat-step, items-length, place-same, repeat-same, items-same}
 use Rattle.expressions.proofs.ExprLaws.{Head, node, over, how-many}
@@ -41,14 +41,14 @@ unfolding exprAt skipNode dimOne
 dim-zero s t base left at m e = rw e (record { place = refl; result = refl })
 
 pub dim-array : (s t : List ℕ) (base left at k : ℕ) (r : Range) (p : ℕ) (o : OptRange) (q n q1 q2 : ℕ) (m m1 m2 : Mem) → Head s left at k r p → k ≡ 7
-    → optOf o ≡ optAt s (rangeAt s) p → q ≡ next s p → CountAt s q n q1 → CompiledArgs s t base (left - 1) q1 n Every m m1 q2
+    → optOf o ≡ optAt s (rangeAt s) p → q ≡ next s p → PayloadAt s q n q1 → CompiledArgs s t base (left - 1) q1 n Every m m1 q2
     → m2 ≡ dimNode (memR t) t base (optOf o) n m1 → Dimmed s t base left at m m2 q2
 unfolding exprNode dimOne skipFields skipField skipTimes skipPair skipItem skipList exprFields
 dim-array s t base left at k r p o q n q1 q2 m m1 m2 h e ho hq c x f =
     let count-is : count (exprsAt s (exprAt s (left - 1)) (skipNode s (left - 1) exprSort) n q1) ≡ n = how-many s (exprAt s (left - 1)) (skipNode s (left - 1) exprSort) n q1 in
     record {
-      place = rw (over s left at k r p h, e, ← hq, ← c .place, ← c .count) (x .place);
-      result = rw (node s left at k r p h, e, ← ho, ← hq, ← c .place, ← c .count, count-is, ← x .result) f;
+      place = rw (over s left at k r p h, e, ← hq, ← c .place, ← c .value) (x .place);
+      result = rw (node s left at k r p h, e, ← ho, ← hq, ← c .place, ← c .value, count-is, ← x .result) f;
     }
 
 no-array : (s t : List ℕ) (base : ℕ) (f : ℕ → Expr) (g : ℕ → ℕ) (k : ℕ) (r : Range) (p : ℕ) (m : Mem) → (k ≡ 7 → ⊥) → m ≡ dimOne (memR t) t base (exprNode s f g k r p) m
@@ -70,26 +70,26 @@ pub dim-other : (s t : List ℕ) (base left at k : ℕ) (r : Range) (p q : ℕ) 
 dim-other s t base left at k r p q m h b e =
     record { place = e; result = rw (node s left at k r p h) (no-array s t base (exprAt s (left - 1)) (skipNode s (left - 1) exprSort) k r p m b) }
 
-dims-more : (s t : List ℕ) (base left n at : ℕ) (m : Mem) → 0 < n → compileDim (memR t) t base (exprsAt s (exprAt s left) (skipNode s left exprSort) n at) m
-    ≡ compileDim (memR t) t base (exprsAt s (exprAt s left) (skipNode s left exprSort) (n - 1) (skipNode s left exprSort at)) (dimOne (memR t) t base (exprAt s left at) m)
+dims-more : (s t : List ℕ) (base left n at : ℕ) (m : Mem) → 0 < n → compileDim (memR t) t base (argsAt s left n at) m
+    ≡ compileDim (memR t) t base (argsAt s left (n - 1) (skipNode s left exprSort at)) (dimOne (memR t) t base (exprAt s left at) m)
 unfolding compileDim
 dims-more s t base left n at m h = rw (exprs-step s (exprAt s left) (skipNode s left exprSort) n at h)
 
 pub step-dim : (s t : List ℕ) (base left n at p : ℕ) (m m1 : Mem) → 0 < n → Dimmed s t base left at m m1 p
-    → compileDim (memR t) t base (exprsAt s (exprAt s left) (skipNode s left exprSort) (n - 1) p) m1
-    ≡ compileDim (memR t) t base (exprsAt s (exprAt s left) (skipNode s left exprSort) n at) m
+    → compileDim (memR t) t base (argsAt s left (n - 1) p) m1
+    ≡ compileDim (memR t) t base (argsAt s left n at) m
 step-dim s t base left n at p m m1 h x = rw (dims-more s t base left n at m h, ← x .place, ← x .result)
 
 pub dim-done : (s t : List ℕ) (base left n k at at₀ : ℕ) (m m₀ : Mem) → n ≤ 0 → skipRepeat s (skipNode s left exprSort) n at ≡ skipRepeat s (skipNode s left exprSort) k at₀
-    → compileDim (memR t) t base (exprsAt s (exprAt s left) (skipNode s left exprSort) n at) m ≡ compileDim (memR t) t base (exprsAt s (exprAt s left) (skipNode s left exprSort) k at₀) m₀
+    → compileDim (memR t) t base (argsAt s left n at) m ≡ compileDim (memR t) t base (argsAt s left k at₀) m₀
     → DimDone s t base left at₀ k m₀ m at
 unfolding exprsAt compileDim skipRepeat
 dim-done s t base left zero k at at₀ m m₀ h p q = record { place = p; result = q }
 dim-done s t base left (suc n) k at at₀ m m₀ h p q = absurd (omega arith)
 
-pub at-dim : (s t : List ℕ) (base left k at : ℕ) (r : Range) (n p q : ℕ) (m m1 : Mem) → CountAt s at n p → DimDone s t base left p n m m1 q → Body s t base left Dim k r at m m1 q
+pub at-dim : (s t : List ℕ) (base left k at : ℕ) (r : Range) (n p q : ℕ) (m m1 : Mem) → PayloadAt s at n p → DimDone s t base left p n m m1 q → Body s t base left Dim k r at m m1 q
 unfolding stmtNode compileStmt skipFields skipField skipTimes skipPair skipItem skipList
-at-dim s t base left k at r n p q m m1 c d = record { place = rw (← c .place, ← c .count) (d .place); result = λ child. rw (← c .place, ← c .count) (d .result) }
+at-dim s t base left k at r n p q m m1 c d = record { place = rw (← c .place, ← c .value) (d .place); result = λ child. rw (← c .place, ← c .value) (d .result) }
 
 -- FIELD
 fields-more : (s t : List ℕ) (base left n at : ℕ) (m : Mem) → 0 < n → compileFields (memR t) t base (itemsAt s (fieldSpecAt s left) (pairOn s left) n at) m
@@ -114,7 +114,7 @@ unfolding itemsAt compileFields skipRepeat
 fields-done s t base left zero k at at₀ m m₀ h p q = record { place = p; result = q }
 fields-done s t base left (suc n) k at at₀ m m₀ h p q = absurd (omega arith)
 
-pub at-field : (s t : List ℕ) (base left k at : ℕ) (r : Range) (p n q q1 q2 : ℕ) (m m1 m2 m3 : Mem) → p ≡ skipNode s left exprSort at → CountAt s p n q → FieldsDone s t base left q n m m1 q1
+pub at-field : (s t : List ℕ) (base left k at : ℕ) (r : Range) (p n q q1 q2 : ℕ) (m m1 m2 m3 : Mem) → p ≡ skipNode s left exprSort at → PayloadAt s p n q → FieldsDone s t base left q n m m1 q1
     → CompiledTyped s t base left at Real m1 m2 q2 → m3 ≡ memR t .emit m2 29 r n 0 0 → Body s t base left Field k r at m m3 q1
 unfolding stmtNode compileStmt compileField skipFields skipField skipTimes skipPair skipItem skipList
 at-field s t base left k at r p n q q1 q2 m m1 m2 m3 hp c d x e =
@@ -124,6 +124,6 @@ at-field s t base left k at r p n q q1 q2 m m1 m2 m3 hp c d x e =
     items-same s (fieldSpecAt s left) (λ z. skipNode s left placeSort (skipNode s left exprSort z)) (pairOn s left) (λ z. place-same s left (skipNode s left exprSort z)) n q in
     let count-is : length (itemsAt s (fieldSpecAt s left) (pairOn s left) n q) ≡ n = items-length s (fieldSpecAt s left) (pairOn s left) n q in
     record {
-      place = rw (← hp, ← c .place, ← c .count, places) (d .place);
-      result = λ child. rw (← hp, ← c .place, ← c .count, specs, count-is, ← d .result, ← x .result) e;
+      place = rw (← hp, ← c .place, ← c .value, places) (d .place);
+      result = λ child. rw (← hp, ← c .place, ← c .value, specs, count-is, ← d .result, ← x .result) e;
     }

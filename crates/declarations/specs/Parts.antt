@@ -6,7 +6,7 @@ use Rattle.recorder.specs.declared.word.Range.{Range}
 use Rattle.recorder.specs.Mem.{Mem, memR}
 use Rattle.sheet.specs.declared.form.Sort.the-variants.{Expr as exprSort}
 use Rattle.sheet.specs.Skip.{skipNode, skipRepeat}
-use Rattle.sheet.specs.Tree.{Opt, Datum, exprAt, exprsAt, itemsAt, datumAt, fieldSpecAt}
+use Rattle.sheet.specs.Tree.{Opt, Datum, exprAt, itemsAt, datumAt, fieldSpecAt, argsAt}
 use Rattle.rules.specs.Stmt.{defNode, compileData, dimOne, compileDim, compileFields}
 use Rattle.expressions.specs.Lists.{twoOn}
 
@@ -30,7 +30,7 @@ pub record Dimmed (s t : List ℕ) (base left at : ℕ) (m m′ : Mem) (p : ℕ)
 
 pub record DimDone (s t : List ℕ) (base left at n : ℕ) (m m′ : Mem) (p : ℕ) : Type 0 where
   pub place : p ≡ skipRepeat s (skipNode s left exprSort) n at
-  pub result : m′ ≡ compileDim (memR t) t base (exprsAt s (exprAt s left) (skipNode s left exprSort) n at) m
+  pub result : m′ ≡ compileDim (memR t) t base (argsAt s left n at) m
 
 -- n fields of FIELD from a place on: a length and a place to store
 abbrev pub pairOn : List ℕ → ℕ → ℕ → ℕ

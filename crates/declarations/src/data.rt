@@ -1,5 +1,5 @@
 // DATA.
-use expressions::expr::Went;
+use expressions::expr::Behind;
 use recorder::codegen::St;
 use recorder::word::Range;
 ghost use mathlib.Core.Path.{_≡_};
@@ -64,7 +64,7 @@ fn data_each(
     base: u32,
     at: usize,
     n: u32,
-) -> Went
+) -> Behind
     ensures { λ x. ⌜ ((l : List ℕ) → DataDone (now (sheet .entry)) (now (text .entry)) base at n (mem l (now (notes .entry)) (now (book .entry)) st) (mem l (now (notes .exit)) (now (book .exit)) (x .st)) (x .at)) ⌝ }
 {
     let mut s = st;
@@ -78,7 +78,7 @@ fn data_each(
         p = recorder::word::behind(sheet, q);
         more -= 1;
     }
-    Went { st: s, at: p }
+    Behind { st: s, at: p }
 }
 
 pub fn compile_data(
@@ -89,9 +89,9 @@ pub fn compile_data(
     st: St,
     base: u32,
     at: usize,
-) -> Went
+) -> Behind
     ensures { λ x. ⌜ ((l : List ℕ) (left k : ℕ) (r : Range) → Body (now (sheet .entry)) (now (text .entry)) base left Data k r at (mem l (now (notes .entry)) (now (book .entry)) st) (mem l (now (notes .exit)) (now (book .exit)) (x .st)) (x .at)) ⌝ }
 {
-    let c = expressions::expr::count_at(sheet, at);
-    data_each(sheet, text, notes, book, st, base, c.at, c.count)
+    let c = expressions::expr::read_payload(sheet, at);
+    data_each(sheet, text, notes, book, st, base, c.at, c.value)
 }

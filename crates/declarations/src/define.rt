@@ -1,5 +1,5 @@
 // DEF.
-use expressions::expr::Went;
+use expressions::expr::Behind;
 use nodes::node::OptRange;
 use recorder::codegen::St;
 use recorder::word::Range;
@@ -8,7 +8,7 @@ ghost use Prim.Native.Nat.{ℕ};
 ghost use Rattle.recorder.specs.Mem.{mem};
 ghost use Rattle.sheet.specs.declared.form.Shape.the-variants.{Def};
 ghost use Rattle.sheet.specs.Tree.{given};
-ghost use Rattle.nodes.specs.Done.{optOf};
+ghost use Rattle.nodes.specs.Compiled.{optOf};
 ghost use Rattle.expressions.specs.Body.{Body};
 ghost use Rattle.declarations.specs.Parts.{Defined};
 
@@ -26,7 +26,7 @@ fn def_whole(
     r: Range,
     name: u32,
     parameter: u32,
-) -> Went
+) -> Behind
     ensures { λ x. ⌜ Defined (now (sheet .entry)) (now (text .entry)) base left at (given r) (given r) r name parameter (mem (now (list .entry)) (now (notes .entry)) (now (book .entry)) st) (mem (now (list .exit)) (now (notes .exit)) (now (book .exit)) (x .st)) (x .at) ⌝ }
 {
     let start = recorder::codegen::current_addr(st);
@@ -47,7 +47,7 @@ fn def_whole(
     let e = recorder::codegen::end_def_fn(list, xs, r);
     let end = recorder::codegen::current_addr(e);
     recorder::codegen::patch_def_end(list, e, start, end);
-    Went { st: e, at: x.at }
+    Behind { st: e, at: x.at }
 }
 
 // A function's body behind its name and its parameter.
@@ -66,7 +66,7 @@ fn def_node(
     r: Range,
     name: u32,
     parameter: u32,
-) -> Went
+) -> Behind
     ensures { λ x. ⌜ Defined (now (sheet .entry)) (now (text .entry)) base left at (optOf o) (optOf a) r name parameter (mem (now (list .entry)) (now (notes .entry)) (now (book .entry)) st) (mem (now (list .exit)) (now (notes .exit)) (now (book .exit)) (x .st)) (x .at) ⌝ }
 {
     match o {
@@ -124,15 +124,15 @@ pub fn compile_def(
     at: usize,
     left: usize,
     r: Range,
-) -> Went
+) -> Behind
     ensures { λ x. ⌜ ((k : ℕ) → Body (now (sheet .entry)) (now (text .entry)) base left Def k r at (mem (now (list .entry)) (now (notes .entry)) (now (book .entry)) st) (mem (now (list .exit)) (now (notes .exit)) (now (book .exit)) (x .st)) (x .at)) ⌝ }
 {
     let p = recorder::word::behind(sheet, at);
     let o = nodes::node::opt_range_at(sheet, at);
     let a = nodes::node::opt_range_at(sheet, p);
-    let x = nodes::node::func_name(text, notes, book, st, base, o);
+    let x = nodes::node::opt_real_sym(text, notes, book, st, base, o);
     let xs = x.st;
-    let y = nodes::node::func_name(text, notes, book, xs, base, a);
+    let y = nodes::node::opt_real_sym(text, notes, book, xs, base, a);
     let ys = y.st;
     let q = recorder::word::behind(sheet, p);
     def_node(

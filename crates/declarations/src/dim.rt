@@ -1,5 +1,5 @@
 // DIM.
-use expressions::expr::Went;
+use expressions::expr::Behind;
 use nodes::node::OptRange;
 use recorder::codegen::St;
 use rules::tables::Wants;
@@ -9,7 +9,7 @@ ghost use Rattle.recorder.specs.declared.word.Range.{Range};
 ghost use Rattle.recorder.specs.Mem.{mem, memR};
 ghost use Rattle.sheet.specs.declared.form.Shape.the-variants.{Dim};
 ghost use Rattle.rules.specs.Stmt.{dimNode};
-ghost use Rattle.nodes.specs.Done.{optOf};
+ghost use Rattle.nodes.specs.Compiled.{optOf};
 ghost use Rattle.expressions.specs.Body.{Body};
 ghost use Rattle.declarations.specs.Parts.{Dimmed, DimDone};
 
@@ -47,17 +47,17 @@ fn dim_one(
     base: u32,
     at: usize,
     left: usize,
-) -> Went
+) -> Behind
     ensures { λ x. ⌜ Dimmed (now (sheet .entry)) (now (text .entry)) base left at (mem (now (list .entry)) (now (notes .entry)) (now (book .entry)) st) (mem (now (list .exit)) (now (notes .exit)) (now (book .exit)) (x .st)) (x .at) ⌝ }
 {
     if left == 0 {
-        return Went { st, at };
+        return Behind { st, at };
     }
     let k = recorder::word::payload_at(sheet, at);
     let p = recorder::word::behind(sheet, recorder::word::behind(sheet, at));
     if k == 7 {
         let o = nodes::node::opt_range_at(sheet, p);
-        let c = expressions::expr::count_at(sheet, recorder::word::behind(sheet, p));
+        let c = expressions::expr::read_payload(sheet, recorder::word::behind(sheet, p));
         let x = expressions::expr::compile_args(
             sheet,
             text,
@@ -67,16 +67,16 @@ fn dim_one(
             st,
             base,
             c.at,
-            c.count,
+            c.value,
             Wants::Every,
             left - 1,
         );
         let xs = x.st;
-        let s = dim_node(text, list, notes, book, xs, base, o, c.count);
-        Went { st: s, at: x.at }
+        let s = dim_node(text, list, notes, book, xs, base, o, c.value);
+        Behind { st: s, at: x.at }
     } else {
         let q = walk::stmt::skip_expr(sheet, at, left);
-        Went { st, at: q }
+        Behind { st, at: q }
     }
 }
 
@@ -91,7 +91,7 @@ fn dim_each(
     at: usize,
     n: u32,
     left: usize,
-) -> Went
+) -> Behind
     ensures { λ x. ⌜ DimDone (now (sheet .entry)) (now (text .entry)) base left at n (mem (now (list .entry)) (now (notes .entry)) (now (book .entry)) st) (mem (now (list .exit)) (now (notes .exit)) (now (book .exit)) (x .st)) (x .at) ⌝ }
 {
     let mut s = st;
@@ -103,7 +103,7 @@ fn dim_each(
         p = x.at;
         more -= 1;
     }
-    Went { st: s, at: p }
+    Behind { st: s, at: p }
 }
 
 pub fn compile_dim(
@@ -116,10 +116,10 @@ pub fn compile_dim(
     base: u32,
     at: usize,
     left: usize,
-) -> Went
+) -> Behind
     ensures { λ x. ⌜ ((k : ℕ) (r : Range) → Body (now (sheet .entry)) (now (text .entry)) base left Dim k r at (mem (now (list .entry)) (now (notes .entry)) (now (book .entry)) st) (mem (now (list .exit)) (now (notes .exit)) (now (book .exit)) (x .st)) (x .at)) ⌝ }
 {
-    let c = expressions::expr::count_at(sheet, at);
+    let c = expressions::expr::read_payload(sheet, at);
     dim_each(
         sheet,
         text,
@@ -129,7 +129,7 @@ pub fn compile_dim(
         st,
         base,
         c.at,
-        c.count,
+        c.value,
         left,
     )
 }

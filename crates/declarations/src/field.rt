@@ -1,5 +1,5 @@
 // FIELD: its file number stands first in the sheet and is compiled last.
-use expressions::expr::Went;
+use expressions::expr::Behind;
 use recorder::codegen::St;
 use recorder::word::Range;
 use rules::types::Type;
@@ -21,7 +21,7 @@ fn field_each(
     at: usize,
     n: u32,
     left: usize,
-) -> Went
+) -> Behind
     ensures { λ x. ⌜ FieldsDone (now (sheet .entry)) (now (text .entry)) base left at n (mem (now (list .entry)) (now (notes .entry)) (now (book .entry)) st) (mem (now (list .exit)) (now (notes .exit)) (now (book .exit)) (x .st)) (x .at) ⌝ }
 {
     let mut s = st;
@@ -57,7 +57,7 @@ fn field_each(
         p = y.at;
         more -= 1;
     }
-    Went { st: s, at: p }
+    Behind { st: s, at: p }
 }
 
 pub fn compile_field(
@@ -71,11 +71,11 @@ pub fn compile_field(
     at: usize,
     left: usize,
     r: Range,
-) -> Went
+) -> Behind
     ensures { λ x. ⌜ ((k : ℕ) → Body (now (sheet .entry)) (now (text .entry)) base left Field k r at (mem (now (list .entry)) (now (notes .entry)) (now (book .entry)) st) (mem (now (list .exit)) (now (notes .exit)) (now (book .exit)) (x .st)) (x .at)) ⌝ }
 {
     let p = walk::stmt::skip_expr(sheet, at, left);
-    let c = expressions::expr::count_at(sheet, p);
+    let c = expressions::expr::read_payload(sheet, p);
     let x = field_each(
         sheet,
         text,
@@ -85,7 +85,7 @@ pub fn compile_field(
         st,
         base,
         c.at,
-        c.count,
+        c.value,
         left,
     );
     let xs = x.st;
@@ -102,6 +102,6 @@ pub fn compile_field(
         Type::Real,
     );
     let ys = y.st;
-    let s = recorder::codegen::emit_field(list, ys, r, c.count);
-    Went { st: s, at: x.at }
+    let s = recorder::codegen::emit_field(list, ys, r, c.value);
+    Behind { st: s, at: x.at }
 }

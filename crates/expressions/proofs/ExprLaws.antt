@@ -11,15 +11,15 @@ use Rattle.sheet.specs.declared.form.Sort.{Sort}
 use Rattle.sheet.specs.declared.form.Sort.the-variants.{Expr as exprSort}
 use Rattle.sheet.specs.Table.{exprFields}
 use Rattle.sheet.specs.Skip.{skipNode, skipRepeat, skipList, skipFields, skipField, skipTimes, skipPair, skipItem}
-use Rattle.sheet.specs.Tree.{Expr, Exprs, more, error, exprRange, count, exprAt, exprNode, exprsAt, optAt, mantissaAt}
+use Rattle.sheet.specs.Tree.{Expr, Exprs, more, error, exprRange, count, exprAt, exprNode, exprsAt, optAt, mantissaAt, argsAt}
 use Rattle.rules.specs.declared.types.«Type».{«Type» as Ty}
 use Rattle.rules.specs.declared.types.«Type».the-variants.{Real, String, Error}
 use Rattle.rules.specs.declared.tables.Wants.{Wants}
 use Rattle.rules.specs.declared.tables.Wants.the-variants.{Func, Every}
 use Rattle.rules.specs.Tables.{wantedBy}
-use Rattle.rules.specs.Expr.{out, compileExpr, compileArgs, checkType, varNode, textNode, numberNode, funcNotes, funcNode, funcName, userCall, binaryNode, unaryNode, indexNode, indexPlace, varPlace, compileLvalue}
+use Rattle.rules.specs.Expr.{out, compileExpr, compileArgs, checkType, varNode, textNode, numberNode, funcNotes, funcNode, optRealSym, userCall, binaryNode, unaryNode, indexNode, indexPlace, varPlace, compileLvalue}
 use Rattle.nodes.specs.declared.node.OptRange.{OptRange}
-use Rattle.nodes.specs.Done.{named, optOf, Compiled, CompiledArgs, CompiledTyped, CompiledPlace, PlaceTyped, OpAt, CountAt}
+use Rattle.nodes.specs.Compiled.{named, optOf, Compiled, CompiledArgs, CompiledTyped, CompiledPlace, PlaceTyped, OpAt, PayloadAt}
 use Rattle.expressions.proofs.Lists.{exprs-step, repeat-step}
 
 -- a node's case, its range, and the place behind both
@@ -82,27 +82,27 @@ pub at-text : (s t : List ℕ) (base left at k : ℕ) (r : Range) (p : ℕ) (m m
 unfolding exprNode compileExpr skipFields exprFields
 at-text s t base left at k r p m m1 h e f = record { place = rw (over s left at k r p h, e); result = rw (node s left at k r p h, e, f) }
 
-pub at-number : (s t : List ℕ) (base left at k : ℕ) (r : Range) (p x q v q1 q2 : ℕ) (m m1 : Mem) → Head s left at k r p → k ≡ 2 → CountAt s p x q → v ≡ mantissaAt s q
+pub at-number : (s t : List ℕ) (base left at k : ℕ) (r : Range) (p x q v q1 q2 : ℕ) (m m1 : Mem) → Head s left at k r p → k ≡ 2 → PayloadAt s p x q → v ≡ mantissaAt s q
     → q1 ≡ next s q → q2 ≡ next s q1 → m1 ≡ numberNode (memR t) t base r x v m → Compiled s t base left at m m1 q2 Real
 unfolding exprNode compileExpr skipFields skipField skipTimes skipPair skipItem exprFields
 at-number s t base left at k r p x q v q1 q2 m m1 h e c hv h1 h2 f = record {
   place = rw (over s left at k r p h, e, h2, h1, c .place);
-  result = rw (node s left at k r p h, e, f, hv, c .count, c .place);
+  result = rw (node s left at k r p h, e, f, hv, c .value, c .place);
 }
 
 pub at-func : (s t : List ℕ) (base left at k : ℕ) (r : Range) (p : ℕ) (fr : Range) (f q n q1 q2 : ℕ) (m m1 m2 m3 : Mem) (ty : Ty) → Head s left at k r p → k ≡ 3 → OpAt s p fr f q
-    → CountAt s q n q1 → m1 ≡ funcNotes (memR t) t base f n fr r m → CompiledArgs s t base (left - 1) q1 n (Func f) m1 m2 q2 → out m3 ty ≡ funcNode (memR t) t base f n r m2
+    → PayloadAt s q n q1 → m1 ≡ funcNotes (memR t) t base f n fr r m → CompiledArgs s t base (left - 1) q1 n (Func f) m1 m2 q2 → out m3 ty ≡ funcNode (memR t) t base f n r m2
     → Compiled s t base left at m m3 q2 ty
 unfolding exprNode compileExpr skipFields skipField skipTimes skipPair skipItem skipList exprFields
 at-func s t base left at k r p fr f q n q1 q2 m m1 m2 m3 ty h e o c f1 x f2 =
     let count-is : count (exprsAt s (exprAt s (left - 1)) (skipNode s (left - 1) exprSort) n q1) ≡ n = how-many s (exprAt s (left - 1)) (skipNode s (left - 1) exprSort) n q1 in
     record {
-      place = rw (over s left at k r p h, e, ← o .place, ← c .place, ← c .count) (x .place);
-      result = rw (node s left at k r p h, e, ← o .place, ← o .kind, ← o .range, ← c .place, ← c .count, count-is, ← f1, ← x .result) f2;
+      place = rw (over s left at k r p h, e, ← o .place, ← c .place, ← c .value) (x .place);
+      result = rw (node s left at k r p h, e, ← o .place, ← o .kind, ← o .range, ← c .place, ← c .value, count-is, ← f1, ← x .result) f2;
     }
 
 pub at-user : (s t : List ℕ) (base left at k : ℕ) (r : Range) (p : ℕ) (o : OptRange) (q v q1 : ℕ) (ar : Range) (m m1 m2 m3 m4 : Mem) (ty : Ty) → Head s left at k r p → k ≡ 4
-    → optOf o ≡ optAt s (rangeAt s) p → q ≡ next s p → named m1 v ≡ funcName (memR t) t base (optOf o) m → Compiled s t base (left - 1) q m1 m2 q1 ty → ar ≡ rangeAt s (next s q)
+    → optOf o ≡ optAt s (rangeAt s) p → q ≡ next s p → named m1 v ≡ optRealSym (memR t) t base (optOf o) m → Compiled s t base (left - 1) q m1 m2 q1 ty → ar ≡ rangeAt s (next s q)
     → m3 ≡ checkType (memR t) t base Real ar ty m2 → m4 ≡ userCall (memR t) t base (optOf o) r v m3 → Compiled s t base left at m m4 q1 Real
 unfolding exprNode compileExpr skipFields skipField skipTimes skipPair skipItem exprFields
 at-user s t base left at k r p o q v q1 ar m m1 m2 m3 m4 ty h e ho hq f1 x ha f2 f3 = record {
@@ -129,14 +129,14 @@ at-unary s t base left at k r p or f q q1 ar m m1 m2 t1 ty h e o x ha f2 = recor
 }
 
 pub at-index : (s t : List ℕ) (base left at k : ℕ) (r : Range) (p : ℕ) (o : OptRange) (q n q1 q2 : ℕ) (m m1 m2 : Mem) (ty : Ty) → Head s left at k r p → k ≡ 7
-    → optOf o ≡ optAt s (rangeAt s) p → q ≡ next s p → CountAt s q n q1 → CompiledArgs s t base (left - 1) q1 n Every m m1 q2
+    → optOf o ≡ optAt s (rangeAt s) p → q ≡ next s p → PayloadAt s q n q1 → CompiledArgs s t base (left - 1) q1 n Every m m1 q2
     → out m2 ty ≡ indexNode (memR t) t base (optOf o) r n m1 → Compiled s t base left at m m2 q2 ty
 unfolding exprNode compileExpr skipFields skipField skipTimes skipPair skipItem skipList exprFields
 at-index s t base left at k r p o q n q1 q2 m m1 m2 ty h e ho hq c x f =
     let count-is : count (exprsAt s (exprAt s (left - 1)) (skipNode s (left - 1) exprSort) n q1) ≡ n = how-many s (exprAt s (left - 1)) (skipNode s (left - 1) exprSort) n q1 in
     record {
-      place = rw (over s left at k r p h, e, ← hq, ← c .place, ← c .count) (x .place);
-      result = rw (node s left at k r p h, e, ← ho, ← hq, ← c .place, ← c .count, count-is, ← x .result) f;
+      place = rw (over s left at k r p h, e, ← hq, ← c .place, ← c .value) (x .place);
+      result = rw (node s left at k r p h, e, ← ho, ← hq, ← c .place, ← c .value, count-is, ← x .result) f;
     }
 
 pub at-inkey : (s t : List ℕ) (base left at k : ℕ) (r : Range) (p : ℕ) (m m1 : Mem) → Head s left at k r p → k ≡ 8 → m1 ≡ memR t .emit m 10 r 0 0 0
@@ -185,14 +185,14 @@ args-more t base want i e es m = refl
 
 pub step-args : (s t : List ℕ) (base left n at p i : ℕ) (r : Range) (w : Wants) (v : Ty) (m m1 m2 : Mem) (ty : Ty) → 0 < n → Compiled s t base left at m m1 p ty → v ≡ wantedBy w i
     → r ≡ rangeAt s (next s at) → m2 ≡ checkType (memR t) t base v r ty m1
-    → compileArgs (memR t) t base (wantedBy w) (i + 1) (exprsAt s (exprAt s left) (skipNode s left exprSort) (n - 1) p) m2
-    ≡ compileArgs (memR t) t base (wantedBy w) i (exprsAt s (exprAt s left) (skipNode s left exprSort) n at) m
+    → compileArgs (memR t) t base (wantedBy w) (i + 1) (argsAt s left (n - 1) p) m2
+    ≡ compileArgs (memR t) t base (wantedBy w) i (argsAt s left n at) m
 step-args s t base left n at p i r w v m m1 m2 ty h x hv hr e =
     rw (exprs-step s (exprAt s left) (skipNode s left exprSort) n at h, args-more, add-one, ← x .place, ← x .result, range-of s left at, ← hr, e, hv)
 
 pub none-left : (s t : List ℕ) (base left n k at at₀ i : ℕ) (w : Wants) (m m₀ : Mem) → n ≤ 0 → skipRepeat s (skipNode s left exprSort) n at ≡ skipRepeat s (skipNode s left exprSort) k at₀
-    → compileArgs (memR t) t base (wantedBy w) i (exprsAt s (exprAt s left) (skipNode s left exprSort) n at) m
-    ≡ compileArgs (memR t) t base (wantedBy w) 0 (exprsAt s (exprAt s left) (skipNode s left exprSort) k at₀) m₀
+    → compileArgs (memR t) t base (wantedBy w) i (argsAt s left n at) m
+    ≡ compileArgs (memR t) t base (wantedBy w) 0 (argsAt s left k at₀) m₀
     → CompiledArgs s t base left at₀ k w m₀ m at
 unfolding exprsAt compileArgs skipRepeat
 none-left s t base left zero k at at₀ i w m m₀ h p q = record { place = p; result = q }
@@ -214,14 +214,14 @@ unfolding exprNode compileLvalue skipFields exprFields
 place-var s t base left at k r p m m1 ty h e f = record { place = rw (over s left at k r p h, e); result = rw (node s left at k r p h, e) f }
 
 pub place-index : (s t : List ℕ) (base left at k : ℕ) (r : Range) (p : ℕ) (o : OptRange) (q n q1 q2 : ℕ) (m m1 m2 : Mem) (ty : Ty) → Head s left at k r p → k ≡ 7
-    → optOf o ≡ optAt s (rangeAt s) p → q ≡ next s p → CountAt s q n q1 → CompiledArgs s t base (left - 1) q1 n Every m m1 q2
+    → optOf o ≡ optAt s (rangeAt s) p → q ≡ next s p → PayloadAt s q n q1 → CompiledArgs s t base (left - 1) q1 n Every m m1 q2
     → out m2 ty ≡ indexPlace (memR t) t base (optOf o) n m1 → CompiledPlace s t base left at m m2 q2 ty
 unfolding exprNode compileLvalue skipFields skipField skipTimes skipPair skipItem skipList exprFields
 place-index s t base left at k r p o q n q1 q2 m m1 m2 ty h e ho hq c x f =
     let count-is : count (exprsAt s (exprAt s (left - 1)) (skipNode s (left - 1) exprSort) n q1) ≡ n = how-many s (exprAt s (left - 1)) (skipNode s (left - 1) exprSort) n q1 in
     record {
-      place = rw (over s left at k r p h, e, ← hq, ← c .place, ← c .count) (x .place);
-      result = rw (node s left at k r p h, e, ← ho, ← hq, ← c .place, ← c .count, count-is, ← x .result) f;
+      place = rw (over s left at k r p h, e, ← hq, ← c .place, ← c .value) (x .place);
+      result = rw (node s left at k r p h, e, ← ho, ← hq, ← c .place, ← c .value, count-is, ← x .result) f;
     }
 
 -- any other case

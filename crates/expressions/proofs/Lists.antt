@@ -5,9 +5,11 @@ use Prim.Native.Nat.{ℕ, zero, suc, _-_, _<_}
 use lib.ListN.{length}
 use native.Mathlib.Numerals.{sub-one}
 use native.Mathlib.Omega.{arith}
+use Rattle.recorder.specs.Word.{next}
 use Rattle.sheet.specs.declared.form.Sort.the-variants.{Expr as exprSort, Place as placeSort, InputPlace as inputSort}
 use Rattle.sheet.specs.Skip.{skipNode, skipRepeat}
 use Rattle.sheet.specs.Tree.{Expr, more, exprsAt, itemsAt}
+use Rattle.expressions.specs.Lists.{twoOn}
 
 -- n are left, the first is at a place
 pub exprs-step : (s : List ℕ) (f : ℕ → Expr) (g : ℕ → ℕ) (n at : ℕ) → 0 < n → exprsAt s f g n at ≡ more (f at) (exprsAt s f g (n - 1) (g at))
@@ -28,6 +30,9 @@ repeat-step s g (suc n) at h = rw sub-one
 pub step-expr : (s : List ℕ) (left n at p : ℕ) → 0 < n → p ≡ skipNode s left exprSort at
     → skipRepeat s (skipNode s left exprSort) (n - 1) p ≡ skipRepeat s (skipNode s left exprSort) n at
 step-expr s left n at p h e = rw (repeat-step s (skipNode s left exprSort) n at h, ← e)
+
+pub step-two : (s : List ℕ) (n at q p : ℕ) → 0 < n → q ≡ next s at → p ≡ next s q → skipRepeat s (twoOn s) (n - 1) p ≡ skipRepeat s (twoOn s) n at
+step-two s n at q p h hq hp = rw (repeat-step s (twoOn s) n at h, ← hq, ← hp)
 
 -- a list of n has n
 pub items-length : {A : Type 0} (s : List ℕ) (f : ℕ → A) (g : ℕ → ℕ) (n at : ℕ) → length (itemsAt s f g n at) ≡ n

@@ -9,9 +9,8 @@ use Rattle.recorder.specs.Word.{rangeAt, next}
 use Rattle.recorder.specs.Mem.{Mem, memR}
 use Rattle.sheet.specs.declared.form.Sort.the-variants.{Expr as exprSort}
 use Rattle.sheet.specs.Skip.{skipNode}
-use Rattle.sheet.specs.Tree.{Expr, Exprs, more, exprRange, exprAt, exprsAt}
+use Rattle.sheet.specs.Tree.{Expr, Exprs, more, exprRange, exprAt, exprsAt, argsAt}
 use Rattle.rules.specs.Stmt.{surplusNotes}
-use Rattle.expressions.specs.Lists.{argsAt}
 use Rattle.expressions.specs.Surplus.{surplusNote}
 use Rattle.expressions.proofs.Lists.{exprs-step}
 use Rattle.expressions.proofs.ExprLaws.{range-of}

@@ -7,17 +7,17 @@ ghost use mathlib.Core.Path.{_≡_};
 ghost use Rattle.recorder.specs.Mem.{mem};
 ghost use Rattle.recorder.specs.Word.{rangeAt, next};
 ghost use Rattle.sheet.specs.Tree.{mantissaAt};
-ghost use Rattle.nodes.specs.Done.{Compiled, CompiledArgs, CompiledTyped, CompiledPlace, PlaceTyped, OpAt, CountAt};
+ghost use Rattle.nodes.specs.Compiled.{Compiled, CompiledArgs, CompiledTyped, CompiledPlace, PlaceTyped, OpAt, PayloadAt};
 
 // What an expression leaves: the state, the place behind it, its kind.
-pub struct Done {
+pub struct TypedBehind {
     pub st: St,
     pub at: usize,
     pub ty: Type,
 }
 
-// What a list of expressions leaves.
-pub struct Went {
+// What a list of expressions or a statement leaves: the state, and the place behind it.
+pub struct Behind {
     pub st: St,
     pub at: usize,
 }
@@ -29,14 +29,14 @@ struct Op {
     at: usize,
 }
 
-// A count, and the place behind it.
-pub struct Counted {
-    pub count: u32,
+// A word's payload, and the place behind the word.
+pub struct Payload {
+    pub value: u32,
     pub at: usize,
 }
 
-// The range of the expression at a place.
-pub fn expr_range(sheet: &[u32], at: usize) -> Range
+// The range of the expression or statement at a place: the word behind its head.
+pub fn node_range(sheet: &[u32], at: usize) -> Range
     ensures { λ r. ⌜ r ≡ rangeAt (now (sheet .entry)) (next (now (sheet .entry)) at) ⌝ }
 {
     recorder::word::range_at(sheet, recorder::word::behind(sheet, at))
@@ -54,11 +54,11 @@ fn op_at(sheet: &[u32], at: usize) -> Op
     }
 }
 
-pub fn count_at(sheet: &[u32], at: usize) -> Counted
-    ensures { λ r. ⌜ CountAt (now (sheet .entry)) at (r .count) (r .at) ⌝ }
+pub fn read_payload(sheet: &[u32], at: usize) -> Payload
+    ensures { λ r. ⌜ PayloadAt (now (sheet .entry)) at (r .value) (r .at) ⌝ }
 {
-    Counted {
-        count: recorder::word::payload_at(sheet, at),
+    Payload {
+        value: recorder::word::payload_at(sheet, at),
         at: recorder::word::behind(sheet, at),
     }
 }
@@ -82,40 +82,40 @@ pub fn compile_expr(
     base: u32,
     at: usize,
     left: usize,
-) -> Done
+) -> TypedBehind
     ensures { λ x. ⌜ Compiled (now (sheet .entry)) (now (text .entry)) base left at (mem (now (list .entry)) (now (notes .entry)) (now (book .entry)) st) (mem (now (list .exit)) (now (notes .exit)) (now (book .exit)) (x .st)) (x .at) (x .ty) ⌝ }
 {
     if left == 0 {
-        return Done {
+        return TypedBehind {
             st,
             at,
             ty: Type::Error,
         };
     }
     let k = recorder::word::payload_at(sheet, at);
-    let r = expr_range(sheet, at);
+    let r = node_range(sheet, at);
     let p = recorder::word::behind(sheet, recorder::word::behind(sheet, at));
     match k {
         0 => {
             let x = nodes::node::var_node(text, list, notes, book, st, base, r);
             let xs = x.st;
             let ty = x.ty;
-            Done { st: xs, at: p, ty }
+            TypedBehind { st: xs, at: p, ty }
         }
         1 => {
             let s = nodes::node::text_node(text, list, notes, st, base, r);
-            Done {
+            TypedBehind {
                 st: s,
                 at: p,
                 ty: Type::String,
             }
         }
         2 => {
-            let e = count_at(sheet, p);
+            let e = read_payload(sheet, p);
             let m = mantissa_at(sheet, e.at);
             let q = recorder::word::behind(sheet, recorder::word::behind(sheet, e.at));
-            let s = nodes::node::number_node(list, notes, st, r, e.count, m);
-            Done {
+            let s = nodes::node::number_node(list, notes, st, r, e.value, m);
+            TypedBehind {
                 st: s,
                 at: q,
                 ty: Type::Real,
@@ -124,8 +124,8 @@ pub fn compile_expr(
         3 => {
             let f = op_at(sheet, p);
             let fr = f.range;
-            let c = count_at(sheet, f.at);
-            let s = nodes::node::func_notes(notes, st, f.kind, c.count, fr, r);
+            let c = read_payload(sheet, f.at);
+            let s = nodes::node::func_notes(notes, st, f.kind, c.value, fr, r);
             let x = compile_args(
                 sheet,
                 text,
@@ -135,15 +135,15 @@ pub fn compile_expr(
                 s,
                 base,
                 c.at,
-                c.count,
+                c.value,
                 Wants::Func(f.kind),
                 left - 1,
             );
             let xs = x.st;
-            let y = nodes::node::func_node(list, xs, f.kind, c.count, r);
+            let y = nodes::node::func_node(list, xs, f.kind, c.value, r);
             let ys = y.st;
             let ty = y.ty;
-            Done {
+            TypedBehind {
                 st: ys,
                 at: x.at,
                 ty,
@@ -152,14 +152,14 @@ pub fn compile_expr(
         4 => {
             let o = nodes::node::opt_range_at(sheet, p);
             let q = recorder::word::behind(sheet, p);
-            let y = nodes::node::func_name(text, notes, book, st, base, o);
+            let y = nodes::node::opt_real_sym(text, notes, book, st, base, o);
             let ys = y.st;
             let x = compile_expr(sheet, text, list, notes, book, ys, base, q, left - 1);
             let xs = x.st;
             let xt = x.ty;
-            let cs = nodes::node::check_type(notes, xs, Type::Real, expr_range(sheet, q), xt);
+            let cs = nodes::node::check_type(notes, xs, Type::Real, node_range(sheet, q), xt);
             let us = nodes::node::user_call(list, cs, o, r, y.number);
-            Done {
+            TypedBehind {
                 st: us,
                 at: x.at,
                 ty: Type::Real,
@@ -174,12 +174,12 @@ pub fn compile_expr(
             let y = compile_expr(sheet, text, list, notes, book, xs, base, o.at, left - 1);
             let ys = y.st;
             let yt = y.ty;
-            let ar = expr_range(sheet, p);
-            let br = expr_range(sheet, o.at);
+            let ar = node_range(sheet, p);
+            let br = node_range(sheet, o.at);
             let z = nodes::node::binary_node(list, notes, ys, o.kind, r, ar, or, br, xt, yt);
             let zs = z.st;
             let ty = z.ty;
-            Done {
+            TypedBehind {
                 st: zs,
                 at: y.at,
                 ty,
@@ -190,11 +190,11 @@ pub fn compile_expr(
             let x = compile_expr(sheet, text, list, notes, book, st, base, o.at, left - 1);
             let xs = x.st;
             let xt = x.ty;
-            let ar = expr_range(sheet, o.at);
+            let ar = node_range(sheet, o.at);
             let z = nodes::node::unary_node(list, notes, xs, o.kind, r, ar, xt);
             let zs = z.st;
             let ty = z.ty;
-            Done {
+            TypedBehind {
                 st: zs,
                 at: x.at,
                 ty,
@@ -202,7 +202,7 @@ pub fn compile_expr(
         }
         7 => {
             let o = nodes::node::opt_range_at(sheet, p);
-            let c = count_at(sheet, recorder::word::behind(sheet, p));
+            let c = read_payload(sheet, recorder::word::behind(sheet, p));
             let x = compile_args(
                 sheet,
                 text,
@@ -212,15 +212,15 @@ pub fn compile_expr(
                 st,
                 base,
                 c.at,
-                c.count,
+                c.value,
                 Wants::Every,
                 left - 1,
             );
             let xs = x.st;
-            let z = nodes::node::index_node(text, list, notes, book, xs, base, o, r, c.count);
+            let z = nodes::node::index_node(text, list, notes, book, xs, base, o, r, c.value);
             let zs = z.st;
             let ty = z.ty;
-            Done {
+            TypedBehind {
                 st: zs,
                 at: x.at,
                 ty,
@@ -228,13 +228,13 @@ pub fn compile_expr(
         }
         8 => {
             let s = recorder::codegen::emit_inkey(list, st, r);
-            Done {
+            TypedBehind {
                 st: s,
                 at: p,
                 ty: Type::String,
             }
         }
-        _ => Done {
+        _ => TypedBehind {
             st,
             at: p,
             ty: Type::Error,
@@ -255,7 +255,7 @@ pub fn compile_args(
     n: u32,
     wants: Wants,
     left: usize,
-) -> Went
+) -> Behind
     ensures { λ x. ⌜ CompiledArgs (now (sheet .entry)) (now (text .entry)) base left at n wants (mem (now (list .entry)) (now (notes .entry)) (now (book .entry)) st) (mem (now (list .exit)) (now (notes .exit)) (now (book .exit)) (x .st)) (x .at) ⌝ }
 {
     let mut s = st;
@@ -267,12 +267,12 @@ pub fn compile_args(
         let xs = x.st;
         let xt = x.ty;
         let w = rules::tables::want(wants, i);
-        s = nodes::node::check_type(notes, xs, w, expr_range(sheet, p), xt);
+        s = nodes::node::check_type(notes, xs, w, node_range(sheet, p), xt);
         p = x.at;
         i += 1;
         more -= 1;
     }
-    Went { st: s, at: p }
+    Behind { st: s, at: p }
 }
 
 // An expression of which a kind is wanted.
@@ -287,15 +287,15 @@ pub fn compile_typed(
     at: usize,
     left: usize,
     want: Type,
-) -> Went
+) -> Behind
     ensures { λ x. ⌜ CompiledTyped (now (sheet .entry)) (now (text .entry)) base left at want (mem (now (list .entry)) (now (notes .entry)) (now (book .entry)) st) (mem (now (list .exit)) (now (notes .exit)) (now (book .exit)) (x .st)) (x .at) ⌝ }
 {
     let x = compile_expr(sheet, text, list, notes, book, st, base, at, left);
     let xs = x.st;
     let xt = x.ty;
-    let r = expr_range(sheet, at);
+    let r = node_range(sheet, at);
     let s = nodes::node::check_type(notes, xs, want, r, xt);
-    Went { st: s, at: x.at }
+    Behind { st: s, at: x.at }
 }
 
 // compile_lvalue: a place to store, which is a variable or an array's element; anything else makes nothing.
@@ -309,29 +309,29 @@ pub fn compile_lvalue(
     base: u32,
     at: usize,
     left: usize,
-) -> Done
+) -> TypedBehind
     ensures { λ x. ⌜ CompiledPlace (now (sheet .entry)) (now (text .entry)) base left at (mem (now (list .entry)) (now (notes .entry)) (now (book .entry)) st) (mem (now (list .exit)) (now (notes .exit)) (now (book .exit)) (x .st)) (x .at) (x .ty) ⌝ }
 {
     if left == 0 {
-        return Done {
+        return TypedBehind {
             st,
             at,
             ty: Type::Error,
         };
     }
     let k = recorder::word::payload_at(sheet, at);
-    let r = expr_range(sheet, at);
+    let r = node_range(sheet, at);
     let p = recorder::word::behind(sheet, recorder::word::behind(sheet, at));
     match k {
         0 => {
             let x = nodes::node::var_place(text, list, notes, book, st, base, r);
             let xs = x.st;
             let ty = x.ty;
-            Done { st: xs, at: p, ty }
+            TypedBehind { st: xs, at: p, ty }
         }
         7 => {
             let o = nodes::node::opt_range_at(sheet, p);
-            let c = count_at(sheet, recorder::word::behind(sheet, p));
+            let c = read_payload(sheet, recorder::word::behind(sheet, p));
             let x = compile_args(
                 sheet,
                 text,
@@ -341,21 +341,21 @@ pub fn compile_lvalue(
                 st,
                 base,
                 c.at,
-                c.count,
+                c.value,
                 Wants::Every,
                 left - 1,
             );
             let xs = x.st;
-            let z = nodes::node::index_place(text, list, notes, book, xs, base, o, c.count);
+            let z = nodes::node::index_place(text, list, notes, book, xs, base, o, c.value);
             let zs = z.st;
             let ty = z.ty;
-            Done {
+            TypedBehind {
                 st: zs,
                 at: x.at,
                 ty,
             }
         }
-        _ => Done {
+        _ => TypedBehind {
             st,
             at: walk::stmt::skip_expr(sheet, at, left),
             ty: Type::Error,
@@ -375,13 +375,13 @@ pub fn place_typed(
     at: usize,
     left: usize,
     want: Type,
-) -> Went
+) -> Behind
     ensures { λ x. ⌜ PlaceTyped (now (sheet .entry)) (now (text .entry)) base left at want (mem (now (list .entry)) (now (notes .entry)) (now (book .entry)) st) (mem (now (list .exit)) (now (notes .exit)) (now (book .exit)) (x .st)) (x .at) ⌝ }
 {
     let x = compile_lvalue(sheet, text, list, notes, book, st, base, at, left);
     let xs = x.st;
     let xt = x.ty;
-    let r = expr_range(sheet, at);
+    let r = node_range(sheet, at);
     let s = nodes::node::check_type(notes, xs, want, r, xt);
-    Went { st: s, at: x.at }
+    Behind { st: s, at: x.at }
 }

@@ -6,8 +6,7 @@ ghost use mathlib.Core.Path.{_≡_};
 ghost use mathlib.Core.List.{List};
 ghost use Prim.Native.Nat.{ℕ};
 ghost use Rattle.recorder.specs.Mem.{mem, memR};
-ghost use Rattle.sheet.specs.Skip.{skipNode};
-ghost use Rattle.sheet.specs.Tree.{exprAt, exprsAt};
+ghost use Rattle.sheet.specs.Tree.{argsAt};
 ghost use Rattle.rules.specs.Stmt.{surplusNotes};
 ghost use Rattle.expressions.specs.Surplus.{surplusNote};
 
@@ -32,14 +31,14 @@ pub fn surplus_notes(
     max: u32,
     left: usize,
 ) -> St
-    ensures { λ x. ⌜ ((t l b : List ℕ) (base : ℕ) → mem l (now (notes .exit)) b x ≡ surplusNotes (memR t) t base max (exprsAt (now (sheet .entry)) (exprAt (now (sheet .entry)) left) (skipNode (now (sheet .entry)) left Sort.Expr) n at) (mem l (now (notes .entry)) b st)) ⌝ }
+    ensures { λ x. ⌜ ((t l b : List ℕ) (base : ℕ) → mem l (now (notes .exit)) b x ≡ surplusNotes (memR t) t base max (argsAt (now (sheet .entry)) left n at) (mem l (now (notes .entry)) b st)) ⌝ }
 {
     let mut s = st;
     let mut p = at;
     let mut keep = max;
     let mut more = n;
     while 0 < more {
-        let r = crate::expr::expr_range(sheet, p);
+        let r = crate::expr::node_range(sheet, p);
         s = surplus_note(notes, s, keep, r);
         keep = rules::name::less_one(keep);
         p = walk::stmt::skip_expr(sheet, p, left);

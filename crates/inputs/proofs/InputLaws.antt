@@ -13,14 +13,14 @@ use Rattle.sheet.specs.declared.form.Item.the-variants.{Source as source}
 use Rattle.sheet.specs.declared.form.Sort.the-variants.{Expr as exprSort, InputPlace as inputSort}
 use Rattle.sheet.specs.declared.form.Shape.the-variants.{Input}
 use Rattle.sheet.specs.Skip.{skipNode, skipRepeat, skipList, skipFields, skipField, skipTimes, skipPair, skipItem}
-use Rattle.sheet.specs.Tree.{Opt, Expr, Stmt, exprRange, count, exprAt, exprNode, exprsAt, optAt, stmtNode, sourceOf}
+use Rattle.sheet.specs.Tree.{Opt, Expr, Stmt, exprRange, count, exprAt, exprNode, exprsAt, optAt, stmtNode, sourceOf, argsAt}
 use Rattle.rules.specs.declared.types.«Type».{«Type» as Ty}
 use Rattle.rules.specs.declared.types.«Type».the-variants.{Real}
-use Rattle.rules.specs.Expr.{realSym, funcName, textNode, compileLvalue}
+use Rattle.rules.specs.Expr.{realSym, optRealSym, textNode, compileLvalue}
 use Rattle.rules.specs.Stmt.{compileStmt, isIdent, isFile, inputArgBy, fnPlace, inputFn, fnInput, inputVar, inputVars, inputSource, compileInput}
 use Rattle.nodes.specs.declared.node.OptRange.{OptRange}
 use Rattle.nodes.specs.declared.node.OptRange.the-variants.{Given, Absent}
-use Rattle.nodes.specs.Done.{named, optOf, CompiledTyped, CompiledPlace, CountAt}
+use Rattle.nodes.specs.Compiled.{named, optOf, CompiledTyped, CompiledPlace, PayloadAt}
 use Rattle.expressions.specs.Body.{Body}
 use Rattle.expressions.proofs.Lists.{exprs-step, input-same, repeat-same, exprs-same}
 use Rattle.expressions.proofs.ExprLaws.{Head, node, range-of, how-many}
@@ -69,7 +69,7 @@ pub fn-nameless : (t : List ℕ) (base : ℕ) (o : OptRange) (b : Bool) (r : Ran
 fn-nameless t base o b r n a m h = rw h
 
 pub input-fn-of : (s t : List ℕ) (base left at : ℕ) (r : Range) (o : OptRange) (q x y : ℕ) (b : Bool) (ar : Range) (m m1 m2 m3 : Mem) → optOf o ≡ optAt s (rangeAt s) at → q ≡ next s at
-    → named m1 x ≡ funcName (memR t) t base (optOf o) m → b ≡ isIdent (exprAt s left q) → ar ≡ rangeAt s (next s q)
+    → named m1 x ≡ optRealSym (memR t) t base (optOf o) m → b ≡ isIdent (exprAt s left q) → ar ≡ rangeAt s (next s q)
     → ((e : Expr) → exprRange e ≡ ar → named m2 y ≡ inputArgBy (memR t) t base b e m1) → m3 ≡ fnPlace (memR t) t base (optOf o) b r x y m2
     → m3 ≡ inputFn (memR t) t base r (optAt s (rangeAt s) at) (exprAt s left (next s at)) m
 input-fn-of s t base left at r o q x y b ar m m1 m2 m3 ho hq hx hb ha hy e =
@@ -115,18 +115,18 @@ taken-place s t base left at k r p q b m m1 ty h n x =
     let left-is : m1 ≡ compileLvalue (memR t) t base (exprAt s left at) m .state = ap (λ z. z .state) (x .result) in
     record { place = x .place; result = left-is ∙ same }
 
-vars-more : (s t : List ℕ) (base left n at : ℕ) (b : Bool) (m : Mem) → 0 < n → inputVars (memR t) t base b (exprsAt s (exprAt s left) (skipNode s left exprSort) n at) m
-    ≡ inputVars (memR t) t base b (exprsAt s (exprAt s left) (skipNode s left exprSort) (n - 1) (skipNode s left exprSort at)) (inputVar (memR t) t base b (exprAt s left at) m)
+vars-more : (s t : List ℕ) (base left n at : ℕ) (b : Bool) (m : Mem) → 0 < n → inputVars (memR t) t base b (argsAt s left n at) m
+    ≡ inputVars (memR t) t base b (argsAt s left (n - 1) (skipNode s left exprSort at)) (inputVar (memR t) t base b (exprAt s left at) m)
 unfolding inputVars
 vars-more s t base left n at b m h = rw (exprs-step s (exprAt s left) (skipNode s left exprSort) n at h)
 
 pub step-taken : (s t : List ℕ) (base left n at p : ℕ) (b : Bool) (m m1 : Mem) → 0 < n → Taken s t base left at b m m1 p
-    → inputVars (memR t) t base b (exprsAt s (exprAt s left) (skipNode s left exprSort) (n - 1) p) m1
-    ≡ inputVars (memR t) t base b (exprsAt s (exprAt s left) (skipNode s left exprSort) n at) m
+    → inputVars (memR t) t base b (argsAt s left (n - 1) p) m1
+    ≡ inputVars (memR t) t base b (argsAt s left n at) m
 step-taken s t base left n at p b m m1 h x = rw (vars-more s t base left n at b m h, ← x .place, ← x .result)
 
 pub taken-all : (s t : List ℕ) (base left n k at at₀ : ℕ) (b : Bool) (m m₀ : Mem) → n ≤ 0 → skipRepeat s (skipNode s left exprSort) n at ≡ skipRepeat s (skipNode s left exprSort) k at₀
-    → inputVars (memR t) t base b (exprsAt s (exprAt s left) (skipNode s left exprSort) n at) m ≡ inputVars (memR t) t base b (exprsAt s (exprAt s left) (skipNode s left exprSort) k at₀) m₀
+    → inputVars (memR t) t base b (argsAt s left n at) m ≡ inputVars (memR t) t base b (argsAt s left k at₀) m₀
     → TakenAll s t base left at₀ k b m₀ m at
 unfolding exprsAt inputVars skipRepeat
 taken-all s t base left zero k at at₀ b m m₀ h p q = record { place = p; result = q }
@@ -151,18 +151,6 @@ pub file-there : (s : List ℕ) (at k : ℕ) → k ≡ payloadAt s at → (k ≡
     → true ≡ isFile (sourceOf s left child (payloadAt s at) (next s at))
 file-there s at k e a b left child = let f : payloadAt s at ≡ suc (suc (k - 2)) = third s at k e a b in rw f
 
-pub over-keys : (s : List ℕ) (left at k p : ℕ) → k ≡ payloadAt s at → p ≡ next s at → k ≡ 0 → p ≡ skipItem s (skipNode s left) source at
-unfolding skipItem
-over-keys s left at k p e hp h = let f : payloadAt s at ≡ 0 = inv e ∙ h in rw f hp
-
-pub over-prompt : (s : List ℕ) (left at k p q : ℕ) → k ≡ payloadAt s at → p ≡ next s at → k ≡ 1 → q ≡ next s p → q ≡ skipItem s (skipNode s left) source at
-unfolding skipItem
-over-prompt s left at k p q e hp h hq = let f : payloadAt s at ≡ 1 = inv e ∙ h in rw (f, ← hp) hq
-
-pub over-file : (s : List ℕ) (left at k p q : ℕ) → k ≡ payloadAt s at → p ≡ next s at → (k ≡ 0 → ⊥) → (k ≡ 1 → ⊥) → q ≡ skipNode s left exprSort p → q ≡ skipItem s (skipNode s left) source at
-unfolding skipItem
-over-file s left at k p q e hp a b hq = let f : payloadAt s at ≡ suc (suc (k - 2)) = third s at k e a b in rw (f, ← hp) hq
-
 pub source-keys : (s t : List ℕ) (base left at k n : ℕ) (r : Range) (m m1 : Mem) (child : ℕ → Stmt) → k ≡ payloadAt s at → k ≡ 0 → m1 ≡ memR t .emit m 32 r 0 n 0
     → m1 ≡ inputSource (memR t) t base r n (sourceOf s left child (payloadAt s at) (next s at)) m
 source-keys s t base left at k n r m m1 child e h p = let f : payloadAt s at ≡ 0 = inv e ∙ h in rw (f, p)
@@ -176,16 +164,16 @@ pub source-file : (s t : List ℕ) (base left at k p q n : ℕ) (r : Range) (m m
 source-file s t base left at k p q n r m m1 m2 child e hp a b x h2 = let f : payloadAt s at ≡ suc (suc (k - 2)) = third s at k e a b in rw (f, ← hp, ← x .result) h2
 
 pub at-input : (s t : List ℕ) (base left k at : ℕ) (r : Range) (q n p p1 : ℕ) (b : Bool) (m m1 m2 : Mem) → q ≡ skipItem s (skipNode s left) source at
-    → ((child : ℕ → Stmt) → b ≡ isFile (sourceOf s left child (payloadAt s at) (next s at))) → CountAt s q n p → TakenAll s t base left p n b m m1 p1
+    → ((child : ℕ → Stmt) → b ≡ isFile (sourceOf s left child (payloadAt s at) (next s at))) → PayloadAt s q n p → TakenAll s t base left p n b m m1 p1
     → ((child : ℕ → Stmt) → m2 ≡ inputSource (memR t) t base r n (sourceOf s left child (payloadAt s at) (next s at)) m1) → Body s t base left Input k r at m m2 p1
 unfolding stmtNode compileStmt compileInput skipFields skipField skipTimes skipPair skipItem skipList
 at-input s t base left k at r q n p p1 b m m1 m2 hq hb c d e =
     let places : skipRepeat s (skipNode s left inputSort) n p ≡ skipRepeat s (skipNode s left exprSort) n p =
     repeat-same s (skipNode s left inputSort) (skipNode s left exprSort) (λ z. input-same s left z) n p in
-    let vars : exprsAt s (exprAt s left) (skipNode s left inputSort) n p ≡ exprsAt s (exprAt s left) (skipNode s left exprSort) n p =
+    let vars : exprsAt s (exprAt s left) (skipNode s left inputSort) n p ≡ argsAt s left n p =
     exprs-same s (exprAt s left) (skipNode s left inputSort) (skipNode s left exprSort) (λ z. input-same s left z) n p in
-    let count-is : count (exprsAt s (exprAt s left) (skipNode s left exprSort) n p) ≡ n = how-many s (exprAt s left) (skipNode s left exprSort) n p in
+    let count-is : count (argsAt s left n p) ≡ n = how-many s (exprAt s left) (skipNode s left exprSort) n p in
     record {
-      place = rw (← hq, ← c .place, ← c .count, places) (d .place);
-      result = λ child. rw (← hq, ← c .place, ← c .count, vars, count-is, ← hb child, ← d .result) (e child);
+      place = rw (← hq, ← c .place, ← c .value, places) (d .place);
+      result = λ child. rw (← hq, ← c .place, ← c .value, vars, count-is, ← hb child, ← d .result) (e child);
     }

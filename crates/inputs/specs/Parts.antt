@@ -6,7 +6,7 @@ use Prim.Native.Nat.{ℕ}
 use Rattle.recorder.specs.Mem.{Mem, memR}
 use Rattle.sheet.specs.declared.form.Sort.the-variants.{Expr as exprSort}
 use Rattle.sheet.specs.Skip.{skipNode, skipRepeat}
-use Rattle.sheet.specs.Tree.{exprAt, exprsAt}
+use Rattle.sheet.specs.Tree.{exprAt, argsAt}
 use Rattle.rules.specs.Stmt.{inputVar, inputVars}
 
 -- a variable of INPUT at a place, and whether it is read from a file; n of them from a place on
@@ -16,4 +16,4 @@ pub record Taken (s t : List ℕ) (base left at : ℕ) (b : Bool) (m m′ : Mem)
 
 pub record TakenAll (s t : List ℕ) (base left at n : ℕ) (b : Bool) (m m′ : Mem) (p : ℕ) : Type 0 where
   pub place : p ≡ skipRepeat s (skipNode s left exprSort) n at
-  pub result : m′ ≡ inputVars (memR t) t base b (exprsAt s (exprAt s left) (skipNode s left exprSort) n at) m
+  pub result : m′ ≡ inputVars (memR t) t base b (argsAt s left n at) m

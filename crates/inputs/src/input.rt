@@ -1,5 +1,5 @@
 // INPUT: its source stands first in the sheet and is compiled last.
-use expressions::expr::Went;
+use expressions::expr::Behind;
 use nodes::node::OptRange;
 use recorder::codegen::Named;
 use recorder::codegen::St;
@@ -10,12 +10,10 @@ ghost use mathlib.Core.List.{List};
 ghost use Prim.Native.Nat.{ℕ};
 ghost use Rattle.recorder.specs.Word.{payloadAt, rangeAt, next};
 ghost use Rattle.recorder.specs.Mem.{mem, memR};
-ghost use Rattle.sheet.specs.declared.form.Item.the-variants.{Source};
 ghost use Rattle.sheet.specs.declared.form.Shape.the-variants.{Input};
-ghost use Rattle.sheet.specs.Skip.{skipNode, skipItem};
 ghost use Rattle.sheet.specs.Tree.{Expr, Stmt, exprRange, exprAt, optAt, sourceOf};
 ghost use Rattle.rules.specs.Stmt.{isIdent, isFile, inputArgBy, fnPlace, inputFn, fnInput, inputSource};
-ghost use Rattle.nodes.specs.Done.{named, optOf};
+ghost use Rattle.nodes.specs.Compiled.{named, optOf};
 ghost use Rattle.expressions.specs.Body.{Body};
 ghost use Rattle.inputs.specs.Parts.{Taken, TakenAll};
 
@@ -83,10 +81,10 @@ fn input_fn(
 {
     let o = nodes::node::opt_range_at(sheet, at);
     let q = recorder::word::behind(sheet, at);
-    let x = nodes::node::func_name(text, notes, book, st, base, o);
+    let x = nodes::node::opt_real_sym(text, notes, book, st, base, o);
     let xs = x.st;
     let i = is_ident(sheet, q, left);
-    let ar = expressions::expr::expr_range(sheet, q);
+    let ar = expressions::expr::node_range(sheet, q);
     let y = input_arg(text, notes, book, xs, base, i, ar);
     let ys = y.st;
     fn_place(list, ys, o, i, r, x.number, y.number)
@@ -126,14 +124,14 @@ fn input_var(
     at: usize,
     left: usize,
     file: bool,
-) -> Went
+) -> Behind
     ensures { λ x. ⌜ Taken (now (sheet .entry)) (now (text .entry)) base left at file (mem (now (list .entry)) (now (notes .entry)) (now (book .entry)) st) (mem (now (list .exit)) (now (notes .exit)) (now (book .exit)) (x .st)) (x .at) ⌝ }
 {
     if left == 0 {
-        return Went { st, at };
+        return Behind { st, at };
     }
     let k = recorder::word::payload_at(sheet, at);
-    let r = expressions::expr::expr_range(sheet, at);
+    let r = expressions::expr::node_range(sheet, at);
     let p = recorder::word::behind(sheet, recorder::word::behind(sheet, at));
     if k == 4 {
         let s = fn_input(
@@ -150,7 +148,7 @@ fn input_var(
             file,
         );
         let q = walk::stmt::skip_expr(sheet, at, left);
-        Went { st: s, at: q }
+        Behind { st: s, at: q }
     } else {
         let x = expressions::expr::compile_lvalue(
             sheet,
@@ -164,7 +162,7 @@ fn input_var(
             left,
         );
         let xs = x.st;
-        Went { st: xs, at: x.at }
+        Behind { st: xs, at: x.at }
     }
 }
 
@@ -180,7 +178,7 @@ fn input_vars(
     n: u32,
     left: usize,
     file: bool,
-) -> Went
+) -> Behind
     ensures { λ x. ⌜ TakenAll (now (sheet .entry)) (now (text .entry)) base left at n file (mem (now (list .entry)) (now (notes .entry)) (now (book .entry)) st) (mem (now (list .exit)) (now (notes .exit)) (now (book .exit)) (x .st)) (x .at) ⌝ }
 {
     let mut s = st;
@@ -192,7 +190,7 @@ fn input_vars(
         p = x.at;
         more -= 1;
     }
-    Went { st: s, at: p }
+    Behind { st: s, at: p }
 }
 
 // The keyboard's call 32, behind a prompt that may be there, or a file's call 33 behind its number.
@@ -249,19 +247,7 @@ fn is_file(sheet: &[u32], at: usize) -> bool
     }
 }
 
-// INPUT's variables stand behind its source.
-fn behind_source(sheet: &[u32], at: usize, left: usize) -> usize
-    ensures { λ x. ⌜ x ≡ skipItem (now (sheet .entry)) (skipNode (now (sheet .entry)) left) Source at ⌝ }
-{
-    let k = recorder::word::payload_at(sheet, at);
-    let p = recorder::word::behind(sheet, at);
-    match k {
-        0 => p,
-        1 => recorder::word::behind(sheet, p),
-        _ => walk::stmt::skip_expr(sheet, p, left),
-    }
-}
-
+// Its variables stand behind its source and are compiled before it.
 pub fn compile_input(
     sheet: &[u32],
     text: &[u16],
@@ -273,12 +259,12 @@ pub fn compile_input(
     at: usize,
     left: usize,
     r: Range,
-) -> Went
+) -> Behind
     ensures { λ x. ⌜ ((k : ℕ) → Body (now (sheet .entry)) (now (text .entry)) base left Input k r at (mem (now (list .entry)) (now (notes .entry)) (now (book .entry)) st) (mem (now (list .exit)) (now (notes .exit)) (now (book .exit)) (x .st)) (x .at)) ⌝ }
 {
-    let q = behind_source(sheet, at, left);
+    let q = walk::stmt::skip_source(sheet, left, at);
     let file = is_file(sheet, at);
-    let c = expressions::expr::count_at(sheet, q);
+    let c = expressions::expr::read_payload(sheet, q);
     let x = input_vars(
         sheet,
         text,
@@ -288,7 +274,7 @@ pub fn compile_input(
         st,
         base,
         c.at,
-        c.count,
+        c.value,
         left,
         file,
     );
@@ -304,7 +290,7 @@ pub fn compile_input(
         at,
         left,
         r,
-        c.count,
+        c.value,
     );
-    Went { st: s, at: x.at }
+    Behind { st: s, at: x.at }
 }

@@ -18,5 +18,5 @@ labelOf (givenLabel l) = given (l .0)
 labelOf absentLabel = absent
 
 -- n targets of an ON from a place on
-abbrev pub onTargets : List ℕ → ℕ → ℕ → List OnTarget
-onTargets s n at = itemsAt s (onTargetAt s) (twoOn s) n at
+abbrev pub onTargetsAt : List ℕ → ℕ → ℕ → List OnTarget
+onTargetsAt s n at = itemsAt s (onTargetAt s) (twoOn s) n at

@@ -1,5 +1,5 @@
 // Statements with labels: GOSUB, GOTO, RESTORE and ON. A jump waits for its label.
-use expressions::expr::Went;
+use expressions::expr::Behind;
 use recorder::codegen::St;
 use recorder::label::Label;
 use recorder::word::Range;
@@ -13,10 +13,10 @@ ghost use Rattle.recorder.specs.Recorder.{pack};
 ghost use Rattle.recorder.specs.Mem.{mem, memR};
 ghost use Rattle.sheet.specs.Skip.{skipRepeat};
 ghost use Rattle.sheet.specs.Tree.{optAt, targetAt, behindLabel};
-ghost use Rattle.rules.specs.Stmt.{waitingJump, compileGo, compileRestore, labelOr0, onJumps};
+ghost use Rattle.rules.specs.Stmt.{pendingJump, compileGo, compileRestore, labelOr0, onJumps};
 ghost use Rattle.expressions.specs.Body.{Body};
 ghost use Rattle.expressions.specs.Lists.{twoOn};
-ghost use Rattle.jumps.specs.Parts.{targetOf, labelOf, onTargets};
+ghost use Rattle.jumps.specs.Parts.{targetOf, labelOf, onTargetsAt};
 
 // A label and its range, which may be absent.
 pub enum OptTarget {
@@ -33,7 +33,7 @@ pub enum OptLabel {
 pub fn target_at(sheet: &[u32], at: usize) -> OptTarget
     ensures { λ x. ⌜ targetOf x ≡ optAt (now (sheet .entry)) (targetAt (now (sheet .entry))) at ⌝ }
 {
-    if recorder::word::kind_at(sheet, at) == 2 {
+    if sheet::leaf::is_absent(sheet, at) {
         OptTarget::Absent
     } else {
         let r = recorder::word::range_at(sheet, at);
@@ -46,7 +46,7 @@ pub fn behind_target(sheet: &[u32], at: usize) -> usize
     ensures { λ q. ⌜ q ≡ behindLabel (now (sheet .entry)) at ⌝ }
 {
     let p = recorder::word::behind(sheet, at);
-    if recorder::word::kind_at(sheet, at) == 2 {
+    if sheet::leaf::is_absent(sheet, at) {
         p
     } else {
         recorder::word::behind(sheet, p)
@@ -56,7 +56,7 @@ pub fn behind_target(sheet: &[u32], at: usize) -> usize
 fn opt_label_at(sheet: &[u32], at: usize) -> OptLabel
     ensures { λ x. ⌜ labelOf x ≡ optAt (now (sheet .entry)) (labelAt (now (sheet .entry))) at ⌝ }
 {
-    if recorder::word::kind_at(sheet, at) == 2 {
+    if sheet::leaf::is_absent(sheet, at) {
         OptLabel::Absent
     } else {
         OptLabel::Given(recorder::label::label_at(sheet, at))
@@ -71,8 +71,8 @@ pub fn packed(r: Range) -> u32
 }
 
 // A jump that waits for its label; sub is 1 for GOSUB.
-fn waiting_jump(list: &mut [u32], st: St, sub: u32, r: Range, l: Label, lr: Range) -> St
-    ensures { λ x. ⌜ ((t n b : List ℕ) (base : ℕ) → mem (now (list .exit)) n b x ≡ waitingJump (memR t) t base sub r (l .0) lr (mem (now (list .entry)) n b st)) ⌝ }
+fn pending_jump(list: &mut [u32], st: St, sub: u32, r: Range, l: Label, lr: Range) -> St
+    ensures { λ x. ⌜ ((t n b : List ℕ) (base : ℕ) → mem (now (list .exit)) n b x ≡ pendingJump (memR t) t base sub r (l .0) lr (mem (now (list .entry)) n b st)) ⌝ }
 {
     let w = packed(lr);
     let v = (l.0 as u32) + 1;
@@ -88,30 +88,30 @@ fn compile_go(list: &mut [u32], st: St, r: Range, sub: u32, o: OptTarget) -> St
     ensures { λ x. ⌜ ((t n b : List ℕ) (base : ℕ) → mem (now (list .exit)) n b x ≡ compileGo (memR t) t base r sub (targetOf o) (mem (now (list .entry)) n b st)) ⌝ }
 {
     let OptTarget::Given(lr, l) = o else {
-        return waiting_jump(list, st, sub, r, Label(0), r);
+        return pending_jump(list, st, sub, r, Label(0), r);
     };
-    waiting_jump(list, st, sub, r, l, lr)
+    pending_jump(list, st, sub, r, l, lr)
 }
 
-pub fn compile_gosub(sheet: &[u32], list: &mut [u32], st: St, at: usize, r: Range) -> Went
+pub fn compile_gosub(sheet: &[u32], list: &mut [u32], st: St, at: usize, r: Range) -> Behind
     ensures { λ x. ⌜ ((t n b : List ℕ) (base left k : ℕ) → Body (now (sheet .entry)) t base left Shape.GoSub k r at (mem (now (list .entry)) n b st) (mem (now (list .exit)) n b (x .st)) (x .at)) ⌝ }
 {
     let o = target_at(sheet, at);
     let s = compile_go(list, st, r, 1, o);
-    Went {
+    Behind {
         st: s,
         at: behind_target(sheet, at),
     }
 }
 
 // Behind its flag, which says whether the word GOTO stands there.
-pub fn compile_goto(sheet: &[u32], list: &mut [u32], st: St, at: usize, r: Range) -> Went
+pub fn compile_goto(sheet: &[u32], list: &mut [u32], st: St, at: usize, r: Range) -> Behind
     ensures { λ x. ⌜ ((t n b : List ℕ) (base left k : ℕ) → Body (now (sheet .entry)) t base left Shape.GoTo k r at (mem (now (list .entry)) n b st) (mem (now (list .exit)) n b (x .st)) (x .at)) ⌝ }
 {
     let p = recorder::word::behind(sheet, at);
     let o = target_at(sheet, p);
     let s = compile_go(list, st, r, 0, o);
-    Went {
+    Behind {
         st: s,
         at: behind_target(sheet, p),
     }
@@ -128,29 +128,29 @@ fn restore_node(list: &mut [u32], st: St, r: Range, o: OptTarget) -> St
     recorder::codegen::emit_restore(list, st, r, v, w)
 }
 
-pub fn compile_restore(sheet: &[u32], list: &mut [u32], st: St, at: usize, r: Range) -> Went
+pub fn compile_restore(sheet: &[u32], list: &mut [u32], st: St, at: usize, r: Range) -> Behind
     ensures { λ x. ⌜ ((t n b : List ℕ) (base left k : ℕ) → Body (now (sheet .entry)) t base left Shape.Restore k r at (mem (now (list .entry)) n b st) (mem (now (list .exit)) n b (x .st)) (x .at)) ⌝ }
 {
     let o = target_at(sheet, at);
     let s = restore_node(list, st, r, o);
-    Went {
+    Behind {
         st: s,
         at: behind_target(sheet, at),
     }
 }
 
 fn on_jump(list: &mut [u32], st: St, sub: u32, r: Range, o: OptLabel) -> St
-    ensures { λ x. ⌜ ((t n b : List ℕ) (base : ℕ) → mem (now (list .exit)) n b x ≡ waitingJump (memR t) t base sub r (labelOr0 (labelOf o)) r (mem (now (list .entry)) n b st)) ⌝ }
+    ensures { λ x. ⌜ ((t n b : List ℕ) (base : ℕ) → mem (now (list .exit)) n b x ≡ pendingJump (memR t) t base sub r (labelOr0 (labelOf o)) r (mem (now (list .entry)) n b st)) ⌝ }
 {
     let OptLabel::Given(l) = o else {
-        return waiting_jump(list, st, sub, r, Label(0), r);
+        return pending_jump(list, st, sub, r, Label(0), r);
     };
-    waiting_jump(list, st, sub, r, l, r)
+    pending_jump(list, st, sub, r, l, r)
 }
 
 // So many targets, a jump each.
 fn on_jumps(sheet: &[u32], list: &mut [u32], st: St, at: usize, n: u32, sub: u32) -> St
-    ensures { λ x. ⌜ ((t o b : List ℕ) (base : ℕ) → mem (now (list .exit)) o b x ≡ onJumps (memR t) t base sub (onTargets (now (sheet .entry)) n at) (mem (now (list .entry)) o b st)) ⌝ }
+    ensures { λ x. ⌜ ((t o b : List ℕ) (base : ℕ) → mem (now (list .exit)) o b x ≡ onJumps (memR t) t base sub (onTargetsAt (now (sheet .entry)) n at) (mem (now (list .entry)) o b st)) ⌝ }
 {
     let mut s = st;
     let mut p = at;
@@ -192,7 +192,7 @@ pub fn compile_on(
     at: usize,
     left: usize,
     r: Range,
-) -> Went
+) -> Behind
     ensures { λ x. ⌜ ((k : ℕ) → Body (now (sheet .entry)) (now (text .entry)) base left Shape.On k r at (mem (now (list .entry)) (now (notes .entry)) (now (book .entry)) st) (mem (now (list .exit)) (now (notes .exit)) (now (book .exit)) (x .st)) (x .at)) ⌝ }
 {
     let x = expressions::expr::compile_typed(
@@ -208,12 +208,12 @@ pub fn compile_on(
         Type::Real,
     );
     let xs = x.st;
-    let c = expressions::expr::count_at(sheet, x.at);
-    let e = behind_targets(sheet, c.at, c.count);
+    let c = expressions::expr::read_payload(sheet, x.at);
+    let e = behind_targets(sheet, c.at, c.value);
     let sub = recorder::word::payload_at(sheet, e);
-    let cs = recorder::codegen::emit_on(list, xs, r, c.count);
-    let s = on_jumps(sheet, list, cs, c.at, c.count, sub);
-    Went {
+    let cs = recorder::codegen::emit_on(list, xs, r, c.value);
+    let s = on_jumps(sheet, list, cs, c.at, c.value, sub);
+    Behind {
         st: s,
         at: recorder::word::behind(sheet, e),
     }

@@ -1,4 +1,4 @@
--- FOR and NEXT: one law for each way out.
+-- FOR, NEXT and WHILE: one law for each way out.
 use mathlib.Core.Path.{_≡_, refl, sym as inv, ap, _∙_}
 use mathlib.Core.List.{List}
 use mathlib.Core.Bool.{Bool, true, false}
@@ -9,19 +9,19 @@ use native.Mathlib.Omega.{arith}
 use Rattle.recorder.specs.declared.word.Range.{Range}
 use Rattle.recorder.specs.declared.codegen.St.{St}
 use Rattle.recorder.specs.Word.{pick, payloadAt, rangeAt, next}
-use Rattle.recorder.specs.Mem.{Mem, memR, symbolNumber, seek, known}
-use Rattle.sheet.specs.declared.form.Shape.the-variants.{For, Next}
+use Rattle.recorder.specs.Mem.{Mem, memR, symbolNumber, entryOf, known}
+use Rattle.sheet.specs.declared.form.Shape.the-variants.{For, Next, While}
 use Rattle.sheet.specs.Form.{isAbsent}
 use Rattle.sheet.specs.Skip.{skipRepeat, skipList, skipFields, skipField, skipTimes, skipPair, skipItem}
 use Rattle.sheet.specs.Tree.{Opt, Expr, exprAt, itemsAt, optAt, stmtNode}
 use Rattle.rules.specs.declared.types.«Type».{«Type» as Ty}
 use Rattle.rules.specs.declared.types.«Type».the-variants.{Real}
 use Rattle.rules.specs.Types.{matchesType}
-use Rattle.rules.specs.Expr.{compileSym, funcName}
-use Rattle.rules.specs.Stmt.{compileStmt, compileFor, forNode, stepFlag, nextOne, nextRange, nextEach, compileNext}
+use Rattle.rules.specs.Expr.{compileSym, optRealSym}
+use Rattle.rules.specs.Stmt.{compileStmt, compileWhile, compileFor, forNode, stepFlag, nextOne, nextRange, nextEach, compileNext}
 use Rattle.nodes.specs.declared.node.OptRange.{OptRange}
 use Rattle.nodes.specs.declared.node.OptRange.the-variants.{Given, Absent}
-use Rattle.nodes.specs.Done.{sym, named, optOf, CompiledTyped, CountAt}
+use Rattle.nodes.specs.Compiled.{sym, named, optOf, CompiledTyped, PayloadAt}
 use Rattle.expressions.specs.Body.{Body}
 use Rattle.expressions.proofs.Lists.{items-step, items-length, repeat-step}
 use Rattle.loops.specs.Parts.{Stepped, NextDone}
@@ -43,7 +43,7 @@ pub for-absent : (t : List ℕ) (base n : ℕ) (o : OptRange) (r : Range) (e : O
 for-absent t base n o r e m h = rw h
 
 pub at-for : (s t : List ℕ) (base left k at : ℕ) (r : Range) (o : OptRange) (v q1 q2 q3 q4 f : ℕ) (m m1 m2 m3 m4 m5 : Mem) → optOf o ≡ optAt s (rangeAt s) at
-    → named m1 v ≡ funcName (memR t) t base (optOf o) m → q1 ≡ next s at → CompiledTyped s t base left q1 Real m1 m2 q2 → CompiledTyped s t base left q2 Real m2 m3 q3
+    → named m1 v ≡ optRealSym (memR t) t base (optOf o) m → q1 ≡ next s at → CompiledTyped s t base left q1 Real m1 m2 q2 → CompiledTyped s t base left q2 Real m2 m3 q3
     → Stepped s t base left q3 m3 m4 q4 f → ((e : Opt Expr) → f ≡ stepFlag e → m5 ≡ forNode (memR t) t base (optOf o) r v e m4) → Body s t base left For k r at m m5 q4
 unfolding stmtNode compileStmt compileFor skipFields skipField skipTimes skipPair skipItem
 at-for s t base left k at r o v q1 q2 q3 q4 f m m1 m2 m3 m4 m5 ho hv h1 x y z last = record {
@@ -65,7 +65,7 @@ below false a b = omega arith
 
 small : (t b : List ℕ) (s : St) (x n g : ℕ) → symbolNumber t b s x n g < 16777216
 unfolding symbolNumber
-small t b s x n g = below (ltb (seek t b s x n g) (known b s)) (getD b (4 * seek t b s x n g) 0) (s .names)
+small t b s x n g = below (ltb (entryOf t b s x n g) (known b s)) (getD b (4 * entryOf t b s x n g) 0) (s .names)
 
 pub sym-small : (t : List ℕ) (base : ℕ) (r : Range) (m m1 : Mem) (v : ℕ) (ty : Ty) → sym m1 v ty ≡ compileSym (memR t) t base r m → v < 16777216
 unfolding compileSym
@@ -99,10 +99,10 @@ unfolding itemsAt nextEach skipRepeat
 next-done s t base r zero k at at₀ m m₀ h p q = record { place = p; result = q }
 next-done s t base r (suc n) k at at₀ m m₀ h p q = absurd (omega arith)
 
-pub at-no-next : (s t : List ℕ) (base left k at : ℕ) (r : Range) (n p : ℕ) (m m1 : Mem) → CountAt s at n p → n ≡ 0 → m1 ≡ memR t .emit m 24 r 0 0 0 → Body s t base left Next k r at m m1 p
+pub at-no-next : (s t : List ℕ) (base left k at : ℕ) (r : Range) (n p : ℕ) (m m1 : Mem) → PayloadAt s at n p → n ≡ 0 → m1 ≡ memR t .emit m 24 r 0 0 0 → Body s t base left Next k r at m m1 p
 unfolding stmtNode compileStmt compileNext itemsAt skipFields skipField skipTimes skipPair skipItem skipList skipRepeat
 at-no-next s t base left k at r n p m m1 c z e =
-    let none-there : payloadAt s at ≡ 0 = inv (c .count) ∙ z in
+    let none-there : payloadAt s at ≡ 0 = inv (c .value) ∙ z in
     record { place = rw (none-there, c .place); result = λ child. rw (none-there, e) }
 
 names-next : (t : List ℕ) (base : ℕ) (r : Range) (s : List ℕ) (n at : ℕ) (m : Mem) → (n ≡ 0 → ⊥)
@@ -113,9 +113,15 @@ names-next t base r s (suc n) at m h =
     let e : length (itemsAt s (optAt s (rangeAt s)) (next s) n (next s at)) ≡ n = items-length s (optAt s (rangeAt s)) (next s) n (next s at) in
     rw e
 
-pub at-next : (s t : List ℕ) (base left k at : ℕ) (r : Range) (n p q : ℕ) (m m1 : Mem) → CountAt s at n p → (n ≡ 0 → ⊥) → NextDone s t base p n r m m1 q → Body s t base left Next k r at m m1 q
+pub at-next : (s t : List ℕ) (base left k at : ℕ) (r : Range) (n p q : ℕ) (m m1 : Mem) → PayloadAt s at n p → (n ≡ 0 → ⊥) → NextDone s t base p n r m m1 q → Body s t base left Next k r at m m1 q
 unfolding stmtNode compileStmt skipFields skipField skipTimes skipPair skipItem skipList
 at-next s t base left k at r n p q m m1 c h d = record {
-  place = rw (← c .place, ← c .count) (d .place);
-  result = λ child. rw (← c .place, ← c .count, names-next t base r s n p m h) (d .result);
+  place = rw (← c .place, ← c .value) (d .place);
+  result = λ child. rw (← c .place, ← c .value, names-next t base r s n p m h) (d .result);
 }
+
+-- WHILE
+pub while-of : (s t : List ℕ) (base left k : ℕ) (r : Range) (p q a : ℕ) (m m1 m2 : Mem) → a ≡ m .st .records → CompiledTyped s t base left p Real m m1 q
+    → m2 ≡ memR t .emit m1 25 r a 4294967295 0 → Body s t base left While k r p m m2 q
+unfolding stmtNode compileStmt compileWhile skipFields skipField skipTimes skipPair skipItem
+while-of s t base left k r p q a m m1 m2 ha x e = record { place = x .place; result = λ child. rw (e, x .result, ha) }

@@ -1,2 +1,3 @@
-// Statements compiled: FOR and NEXT of compiler.rs.
-pub mod count;
+// Statements compiled: FOR, NEXT and WHILE of compiler.rs.
+pub mod for_loop;
+pub mod while_loop;

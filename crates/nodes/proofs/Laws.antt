@@ -5,12 +5,13 @@ use mathlib.Core.Bool.{Bool, true, false}
 use Prim.Native.Nat.{ℕ, _+_, _-_, _≤_, _<_}
 use lib.ListN.{getD, length}
 use lib.Dec.{eqb}
-use borrow.Author.Tests.{lt-ltb, le-ltb, eq-eqb, ne-eqb}
+use borrow.Author.Tests.{lt-ltb, le-ltb, ne-eqb}
 use native.Mathlib.Omega.{arith}
 use Rattle.recorder.specs.declared.word.Range.{Range}
 use Rattle.recorder.specs.declared.codegen.St.{St}
-use Rattle.recorder.specs.Word.{kindAt, wordOf, rangeWord, rangeAt}
+use Rattle.recorder.specs.Word.{wordOf, rangeWord, rangeAt}
 use Rattle.recorder.specs.Mem.{Mem, mem, memR, putRec, putList, putSt, noteList, noteSt, symbolList, symbolSt, symbolNumber}
+use Rattle.sheet.specs.Form.{isAbsent}
 use Rattle.sheet.specs.Tree.{optAt}
 use Rattle.rules.specs.declared.types.«Type».{«Type» as Ty}
 use Rattle.rules.specs.declared.types.«Type».the-variants.{Integer, Real, String, Error}
@@ -20,10 +21,10 @@ use Rattle.rules.specs.Name.{readName}
 use Rattle.rules.specs.declared.tables.Sig.{Sig}
 use Rattle.rules.specs.Tables.{signatureOf, signatureFor}
 use Rattle.rules.specs.Name.{textPlace}
-use Rattle.rules.specs.Expr.{out, symOf, blankNote, compileSym, checkType, checkReal, realSym, funcName, varNode, varPlace, endsInQuote, quotedLength, quotedStart, textNode, numberNode, tabNote, arityNotes, funcNotes, funcNode, userCall, likeCall, likeType, unlikeType, likeNode, arithNode, binaryNode, unaryNode, indexNode, indexPlace}
+use Rattle.rules.specs.Expr.{out, symOf, blankNote, compileSym, checkType, checkReal, realSym, optRealSym, varNode, varPlace, endsInQuote, quotedLength, quotedStart, textNode, numberNode, tabNote, arityNotes, funcNotes, funcNode, userCall, likeCall, likeType, unlikeType, likeNode, arithNode, binaryNode, unaryNode, indexNode, indexPlace}
 use Rattle.nodes.specs.declared.node.OptRange.{OptRange}
 use Rattle.nodes.specs.declared.node.OptRange.the-variants.{Given, Absent}
-use Rattle.nodes.specs.Done.{sym, named, optOf}
+use Rattle.nodes.specs.Compiled.{sym, named, optOf}
 
 -- what a note, and a record, ensure
 abbrev pub Noted : ℕ → Range → ℕ → List ℕ → List ℕ → St → St → Type 0
@@ -36,11 +37,11 @@ abbrev pub Symbol : List ℕ → ℕ → ℕ → ℕ → List ℕ → List ℕ �
 Symbol t x n g b b′ s s′ v = (b′ ≡ symbolList t b s x n g) × (s′ ≡ symbolSt t b s x n g) × (v ≡ symbolNumber t b s x n g)
 
 -- options
-pub opt-absent : (s : List ℕ) (at k : ℕ) → k ≡ kindAt s at → k ≡ 2 → optOf Absent ≡ optAt s (rangeAt s) at
-opt-absent s at k e h = let f : kindAt s at ≡ 2 = inv e ∙ h in rw (eq-eqb _ _ f)
+pub opt-absent : (s : List ℕ) (at : ℕ) (k : Bool) → k ≡ isAbsent s at → k ≡ true → optOf Absent ≡ optAt s (rangeAt s) at
+opt-absent s at k e h = let f : isAbsent s at ≡ true = inv e ∙ h in rw (f)
 
-pub opt-given : (s : List ℕ) (at k : ℕ) (r : Range) → k ≡ kindAt s at → (k ≡ 2 → ⊥) → r ≡ rangeAt s at → optOf (Given r) ≡ optAt s (rangeAt s) at
-opt-given s at k r e h f = let g : kindAt s at ≡ 2 → ⊥ = λ q. h (e ∙ q) in simp (ne-eqb _ _ g, f)
+pub opt-given : (s : List ℕ) (at : ℕ) (k : Bool) (r : Range) → k ≡ isAbsent s at → k ≡ false → r ≡ rangeAt s at → optOf (Given r) ≡ optAt s (rangeAt s) at
+opt-given s at k r e h f = let g : isAbsent s at ≡ false = inv e ∙ h in simp (g, f)
 
 -- kinds
 pub check-fits : (want ty : Ty) (r : Range) (n : List ℕ) (s : St) (b : Bool) → b ≡ matchesType ty want → b ≡ true
@@ -92,10 +93,10 @@ unfolding realSym
 real-of t base r m m1 m2 v ty p q = rw (← p, q)
 
 pub func-given : (t : List ℕ) (base : ℕ) (o : OptRange) (r : Range) (m m1 : Mem) (v : ℕ) → o ≡ Given r → named m1 v ≡ realSym (memR t) t base r m
-    → named m1 v ≡ funcName (memR t) t base (optOf o) m
+    → named m1 v ≡ optRealSym (memR t) t base (optOf o) m
 func-given t base o r m m1 v e p = rw e p
 
-pub func-absent : (t : List ℕ) (base : ℕ) (o : OptRange) (m : Mem) → o ≡ Absent → named m 0 ≡ funcName (memR t) t base (optOf o) m
+pub func-absent : (t : List ℕ) (base : ℕ) (o : OptRange) (m : Mem) → o ≡ Absent → named m 0 ≡ optRealSym (memR t) t base (optOf o) m
 func-absent t base o m e = rw e
 
 -- variables

@@ -10,8 +10,8 @@ ghost use Rattle.recorder.specs.Mem.{mem, memR};
 ghost use Rattle.sheet.specs.Tree.{optAt};
 ghost use Rattle.recorder.specs.Word.{rangeAt};
 ghost use Rattle.rules.specs.Tables.{signatureOf};
-ghost use Rattle.rules.specs.Expr.{out, blankNote, compileSym, checkType, checkReal, realSym, varNode, varPlace, quotedStart, tabNote, likeType, unlikeType, likeCall, textNode, numberNode, arityNotes, funcNotes, funcNode, funcName, userCall, likeNode, arithNode, binaryNode, unaryNode, indexNode, indexPlace, quotedLength, endsInQuote};
-ghost use Rattle.nodes.specs.Done.{sym, named, optOf};
+ghost use Rattle.rules.specs.Expr.{out, blankNote, compileSym, checkType, checkReal, realSym, varNode, varPlace, quotedStart, tabNote, likeType, unlikeType, likeCall, textNode, numberNode, arityNotes, funcNotes, funcNode, optRealSym, userCall, likeNode, arithNode, binaryNode, unaryNode, indexNode, indexPlace, quotedLength, endsInQuote};
+ghost use Rattle.nodes.specs.Compiled.{sym, named, optOf};
 
 // A range that may be absent.
 pub enum OptRange {
@@ -20,7 +20,7 @@ pub enum OptRange {
 }
 
 // A state and a kind.
-pub struct Left {
+pub struct Typed {
     pub st: St,
     pub ty: Type,
 }
@@ -35,7 +35,7 @@ pub struct Sym {
 pub fn opt_range_at(sheet: &[u32], at: usize) -> OptRange
     ensures { λ r. ⌜ optOf r ≡ optAt (now (sheet .entry)) (rangeAt (now (sheet .entry))) at ⌝ }
 {
-    if recorder::word::kind_at(sheet, at) == 2 {
+    if sheet::leaf::is_absent(sheet, at) {
         OptRange::Absent
     } else {
         OptRange::Given(recorder::word::range_at(sheet, at))
@@ -120,7 +120,7 @@ pub fn real_sym(
 }
 
 // The same where the name may be absent.
-pub fn func_name(
+pub fn opt_real_sym(
     text: &[u16],
     notes: &mut [u32],
     book: &mut [u32],
@@ -128,7 +128,7 @@ pub fn func_name(
     base: u32,
     o: OptRange,
 ) -> Named
-    ensures { λ x. ⌜ ((l : List ℕ) → named (mem l (now (notes .exit)) (now (book .exit)) (x .st)) (x .number) ≡ funcName (memR (now (text .entry))) (now (text .entry)) base (optOf o) (mem l (now (notes .entry)) (now (book .entry)) st)) ⌝ }
+    ensures { λ x. ⌜ ((l : List ℕ) → named (mem l (now (notes .exit)) (now (book .exit)) (x .st)) (x .number) ≡ optRealSym (memR (now (text .entry))) (now (text .entry)) base (optOf o) (mem l (now (notes .entry)) (now (book .entry)) st)) ⌝ }
 {
     match o {
         OptRange::Given(r) => real_sym(text, notes, book, st, base, r),
@@ -145,14 +145,14 @@ pub fn var_node(
     st: St,
     base: u32,
     r: Range,
-) -> Left
+) -> Typed
     ensures { λ x. ⌜ out (mem (now (list .exit)) (now (notes .exit)) (now (book .exit)) (x .st)) (x .ty) ≡ varNode (memR (now (text .entry))) (now (text .entry)) base r (mem (now (list .entry)) (now (notes .entry)) (now (book .entry)) st) ⌝ }
 {
     let y = compile_sym(text, notes, book, st, base, r);
     let ys = y.st;
     let ty = y.ty;
     let s = recorder::codegen::emit_var(list, ys, r, y.number);
-    Left { st: s, ty }
+    Typed { st: s, ty }
 }
 
 // A variable to store to: call 7.
@@ -164,14 +164,14 @@ pub fn var_place(
     st: St,
     base: u32,
     r: Range,
-) -> Left
+) -> Typed
     ensures { λ x. ⌜ out (mem (now (list .exit)) (now (notes .exit)) (now (book .exit)) (x .st)) (x .ty) ≡ varPlace (memR (now (text .entry))) (now (text .entry)) base r (mem (now (list .entry)) (now (notes .entry)) (now (book .entry)) st) ⌝ }
 {
     let y = compile_sym(text, notes, book, st, base, r);
     let ys = y.st;
     let ty = y.ty;
     let s = recorder::codegen::emit_var_lvalue(list, ys, r, y.number);
-    Left { st: s, ty }
+    Typed { st: s, ty }
 }
 
 fn ends_in_quote(text: &[u16], base: u32, r: Range) -> bool
@@ -269,12 +269,12 @@ pub fn func_notes(notes: &mut [u32], st: St, k: u32, n: u32, fr: Range, r: Range
 }
 
 // A function's call: call 11.
-pub fn func_node(list: &mut [u32], st: St, k: u32, n: u32, r: Range) -> Left
+pub fn func_node(list: &mut [u32], st: St, k: u32, n: u32, r: Range) -> Typed
     ensures { λ x. ⌜ ((t o b : List ℕ) (base : ℕ) → out (mem (now (list .exit)) o b (x .st)) (x .ty) ≡ funcNode (memR t) t base k n r (mem (now (list .entry)) o b st)) ⌝ }
 {
     let s = recorder::codegen::emit_sys_func_call(list, st, r, k, n);
     let ty = rules::tables::result_type(rules::tables::sig_of(k));
-    Left { st: s, ty }
+    Typed { st: s, ty }
 }
 
 // A user function's call behind its argument: call 12.
@@ -324,17 +324,17 @@ fn like_node(
     o: Range,
     x: Type,
     y: Type,
-) -> Left
+) -> Typed
     ensures { λ z. ⌜ ((t b : List ℕ) (base : ℕ) → out (mem (now (list .exit)) (now (notes .exit)) b (z .st)) (z .ty) ≡ likeNode (memR t) t base k r o x y (mem (now (list .entry)) (now (notes .entry)) b st)) ⌝ }
 {
     if rules::types::matches(x, y) {
         let s = like_call(list, st, k, r, x);
         let ty = like_type(k, x);
-        Left { st: s, ty }
+        Typed { st: s, ty }
     } else {
         let s = recorder::codegen::note(notes, st, 4, o, 1);
         let ty = unlike_type(k);
-        Left { st: s, ty }
+        Typed { st: s, ty }
     }
 }
 
@@ -349,13 +349,13 @@ fn arith_node(
     br: Range,
     x: Type,
     y: Type,
-) -> Left
+) -> Typed
     ensures { λ z. ⌜ ((t b : List ℕ) (base : ℕ) → out (mem (now (list .exit)) (now (notes .exit)) b (z .st)) (z .ty) ≡ arithNode (memR t) t base k r ar br x y (mem (now (list .entry)) (now (notes .entry)) b st)) ⌝ }
 {
     let s1 = check_type(notes, st, Type::Real, ar, x);
     let s2 = check_type(notes, s1, Type::Real, br, y);
     let s = recorder::codegen::emit_num_binary_expr(list, s2, r, k);
-    Left {
+    Typed {
         st: s,
         ty: Type::Real,
     }
@@ -373,7 +373,7 @@ pub fn binary_node(
     br: Range,
     x: Type,
     y: Type,
-) -> Left
+) -> Typed
     ensures { λ z. ⌜ ((t b : List ℕ) (base : ℕ) → out (mem (now (list .exit)) (now (notes .exit)) b (z .st)) (z .ty) ≡ binaryNode (memR t) t base k r ar o br x y (mem (now (list .entry)) (now (notes .entry)) b st)) ⌝ }
 {
     if k < 7 {
@@ -391,12 +391,12 @@ pub fn unary_node(
     r: Range,
     ar: Range,
     x: Type,
-) -> Left
+) -> Typed
     ensures { λ z. ⌜ ((t b : List ℕ) (base : ℕ) → out (mem (now (list .exit)) (now (notes .exit)) b (z .st)) (z .ty) ≡ unaryNode (memR t) t base k r ar x (mem (now (list .entry)) (now (notes .entry)) b st)) ⌝ }
 {
     let s1 = check_type(notes, st, Type::Real, ar, x);
     let s = recorder::codegen::emit_unary_expr(list, s1, r, k);
-    Left {
+    Typed {
         st: s,
         ty: Type::Real,
     }
@@ -413,7 +413,7 @@ pub fn index_node(
     o: OptRange,
     r: Range,
     n: u32,
-) -> Left
+) -> Typed
     ensures { λ x. ⌜ out (mem (now (list .exit)) (now (notes .exit)) (now (book .exit)) (x .st)) (x .ty) ≡ indexNode (memR (now (text .entry))) (now (text .entry)) base (optOf o) r n (mem (now (list .entry)) (now (notes .entry)) (now (book .entry)) st) ⌝ }
 {
     match o {
@@ -422,9 +422,9 @@ pub fn index_node(
             let ys = y.st;
             let ty = y.ty;
             let s = recorder::codegen::emit_index(list, ys, r, y.number, n);
-            Left { st: s, ty }
+            Typed { st: s, ty }
         }
-        OptRange::Absent => Left {
+        OptRange::Absent => Typed {
             st,
             ty: Type::Error,
         },
@@ -441,7 +441,7 @@ pub fn index_place(
     base: u32,
     o: OptRange,
     n: u32,
-) -> Left
+) -> Typed
     ensures { λ x. ⌜ out (mem (now (list .exit)) (now (notes .exit)) (now (book .exit)) (x .st)) (x .ty) ≡ indexPlace (memR (now (text .entry))) (now (text .entry)) base (optOf o) n (mem (now (list .entry)) (now (notes .entry)) (now (book .entry)) st) ⌝ }
 {
     match o {
@@ -450,9 +450,9 @@ pub fn index_place(
             let ys = y.st;
             let ty = y.ty;
             let s = recorder::codegen::emit_index_lvalue(list, ys, nr, y.number, n);
-            Left { st: s, ty }
+            Typed { st: s, ty }
         }
-        OptRange::Absent => Left {
+        OptRange::Absent => Typed {
             st,
             ty: Type::Error,
         },

@@ -1,2 +1,3 @@
 pub mod OpLaws
 pub mod DrawLaws
+pub mod LocateLaws

@@ -5,14 +5,14 @@ use Prim.Native.Nat.{ℕ}
 use Rattle.recorder.specs.declared.word.Range.{Range}
 use Rattle.recorder.specs.Word.{next}
 use Rattle.recorder.specs.Mem.{Mem, memR}
-use Rattle.sheet.specs.declared.form.Shape.the-variants.{Rem, NoOp, Op0, Run, Op1, Op2, Op3, Set, System, While}
+use Rattle.sheet.specs.declared.form.Shape.the-variants.{Rem, NoOp, Op0, Run, Op1, Op2, Op3, Set, System}
 use Rattle.sheet.specs.Skip.{skipFields, skipField, skipTimes, skipPair, skipItem}
 use Rattle.sheet.specs.Tree.{stmtNode}
 use Rattle.rules.specs.declared.types.«Type».{«Type» as Ty}
-use Rattle.rules.specs.declared.types.«Type».the-variants.{Real, String}
+use Rattle.rules.specs.declared.types.«Type».the-variants.{String}
 use Rattle.rules.specs.Tables.{operand}
-use Rattle.rules.specs.Stmt.{compileStmt, compileWhile}
-use Rattle.nodes.specs.Done.{CompiledTyped, PlaceTyped}
+use Rattle.rules.specs.Stmt.{compileStmt}
+use Rattle.nodes.specs.Compiled.{CompiledTyped, PlaceTyped}
 use Rattle.expressions.specs.Body.{Body}
 use Rattle.expressions.proofs.Lists.{place-same}
 
@@ -53,11 +53,6 @@ pub three-of : (s t : List ℕ) (base left k : ℕ) (r : Range) (p q q1 q2 : ℕ
 unfolding stmtNode compileStmt skipFields skipField skipTimes skipPair skipItem
 three-of s t base left k r p q q1 q2 v w u m m1 m2 m3 m4 hv hw hu x y z e =
     record { place = rw (← x .place, ← y .place) (z .place); result = λ child. rw (e, z .result, y .result, x .result, y .place, x .place, hv, hw, hu) }
-
-pub while-of : (s t : List ℕ) (base left k : ℕ) (r : Range) (p q a : ℕ) (m m1 m2 : Mem) → a ≡ m .st .records → CompiledTyped s t base left p Real m m1 q
-    → m2 ≡ memR t .emit m1 25 r a 4294967295 0 → Body s t base left While k r p m m2 q
-unfolding stmtNode compileStmt compileWhile skipFields skipField skipTimes skipPair skipItem
-while-of s t base left k r p q a m m1 m2 ha x e = record { place = x .place; result = λ child. rw (e, x .result, ha) }
 
 pub set-of : (s t : List ℕ) (base left k : ℕ) (r : Range) (p q q1 : ℕ) (m m1 m2 m3 : Mem) → PlaceTyped s t base left p String m m1 q → CompiledTyped s t base left q String m1 m2 q1
     → m3 ≡ memR t .emit m2 2 r k 2 0 → Body s t base left Set k r p m m3 q1

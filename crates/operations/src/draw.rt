@@ -1,5 +1,5 @@
 // The draw statements: compile_draw_stmt of compiler.rs.
-use expressions::expr::Went;
+use expressions::expr::Behind;
 use recorder::codegen::St;
 use recorder::word::Range;
 use rules::tables::Wants;
@@ -9,8 +9,7 @@ ghost use mathlib.Core.Path.{_≡_};
 ghost use mathlib.Core.List.{List};
 ghost use Prim.Native.Nat.{ℕ};
 ghost use Rattle.recorder.specs.Mem.{mem, memR};
-ghost use Rattle.sheet.specs.Skip.{skipNode};
-ghost use Rattle.sheet.specs.Tree.{exprAt, exprsAt};
+ghost use Rattle.sheet.specs.Tree.{argsAt};
 ghost use Rattle.rules.specs.Stmt.{drawNode};
 ghost use Rattle.expressions.specs.Body.{Body};
 
@@ -26,7 +25,7 @@ fn draw_node(
     k: u32,
     r: Range,
 ) -> St
-    ensures { λ x. ⌜ ((t b : List ℕ) (base : ℕ) → mem (now (list .exit)) (now (notes .exit)) b x ≡ drawNode (memR t) t base k r (exprsAt (now (sheet .entry)) (exprAt (now (sheet .entry)) left) (skipNode (now (sheet .entry)) left Sort.Expr) n at) (mem (now (list .entry)) (now (notes .entry)) b st)) ⌝ }
+    ensures { λ x. ⌜ ((t b : List ℕ) (base : ℕ) → mem (now (list .exit)) (now (notes .exit)) b x ≡ drawNode (memR t) t base k r (argsAt (now (sheet .entry)) left n at) (mem (now (list .entry)) (now (notes .entry)) b st)) ⌝ }
 {
     if n < rules::tables::draw_min(k) {
         return recorder::codegen::note(notes, st, 6, r, 1);
@@ -50,10 +49,10 @@ pub fn compile_draw_stmt(
     left: usize,
     k: u32,
     r: Range,
-) -> Went
+) -> Behind
     ensures { λ x. ⌜ Body (now (sheet .entry)) (now (text .entry)) base left Shape.Draw k r at (mem (now (list .entry)) (now (notes .entry)) (now (book .entry)) st) (mem (now (list .exit)) (now (notes .exit)) (now (book .exit)) (x .st)) (x .at) ⌝ }
 {
-    let c = expressions::expr::count_at(sheet, at);
+    let c = expressions::expr::read_payload(sheet, at);
     let x = expressions::expr::compile_args(
         sheet,
         text,
@@ -63,11 +62,11 @@ pub fn compile_draw_stmt(
         st,
         base,
         c.at,
-        c.count,
+        c.value,
         Wants::Draw(k),
         left,
     );
     let xs = x.st;
-    let s = draw_node(sheet, list, notes, xs, c.at, c.count, left, k, r);
-    Went { st: s, at: x.at }
+    let s = draw_node(sheet, list, notes, xs, c.at, c.value, left, k, r);
+    Behind { st: s, at: x.at }
 }

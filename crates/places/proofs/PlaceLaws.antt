@@ -1,28 +1,26 @@
--- One law for each way out: LET, SWAP, LOCATE and READ.
-use mathlib.Core.Path.{_≡_, refl, sym as inv, ap, _∙_}
+-- One law for each way out: LET, SWAP and READ.
+use mathlib.Core.Path.{_≡_, refl}
 use mathlib.Core.List.{List}
 use mathlib.Core.Bool.{Bool, true, false}
 use Prim.Native.Nat.{ℕ, zero, suc, _-_, _≤_, _<_}
-use borrow.Author.Tests.{eq-eqb, ne-eqb}
 use native.Mathlib.Omega.{arith}
 use Rattle.recorder.specs.declared.word.Range.{Range}
-use Rattle.recorder.specs.Word.{pick, kindAt, rangeAt, next, choose}
+use Rattle.recorder.specs.Word.{pick, rangeAt, next}
 use Rattle.recorder.specs.Mem.{Mem, memR}
-use Rattle.sheet.specs.declared.form.Sort.the-variants.{Expr as exprSort, Place as placeSort}
-use Rattle.sheet.specs.declared.form.Shape.the-variants.{Let, Swap, Locate, Read}
-use Rattle.sheet.specs.Form.{isAbsent}
+use Rattle.sheet.specs.declared.form.Sort.the-variants.{Place as placeSort}
+use Rattle.sheet.specs.declared.form.Shape.the-variants.{Let, Swap, Read}
 use Rattle.sheet.specs.Skip.{skipNode, skipRepeat, skipList, skipFields, skipField, skipTimes, skipPair, skipItem}
-use Rattle.sheet.specs.Tree.{Expr, Exprs, more, exprRange, exprAt, exprsAt, stmtNode, optAt}
+use Rattle.sheet.specs.Tree.{Expr, Exprs, more, exprRange, exprAt, exprsAt, stmtNode}
 use Rattle.rules.specs.declared.types.«Type».{«Type» as Ty}
 use Rattle.rules.specs.declared.types.«Type».the-variants.{Integer, Real, String, Error}
 use Rattle.rules.specs.Types.{matchesType, exactMatches}
 use Rattle.rules.specs.Expr.{compileLvalue}
-use Rattle.rules.specs.Stmt.{assignCall, assignNode, compileLet, compileSwap, locatePart, compileLocate, compileRead, compileStmt}
-use Rattle.nodes.specs.Done.{Compiled, CompiledTyped, CompiledPlace, CountAt}
+use Rattle.rules.specs.Stmt.{assignCall, assignNode, compileLet, compileSwap, compileRead, compileStmt}
+use Rattle.nodes.specs.Compiled.{Compiled, CompiledPlace, PayloadAt}
 use Rattle.expressions.specs.Body.{Body}
 use Rattle.expressions.proofs.Lists.{exprs-step, repeat-step, place-same}
 use Rattle.expressions.proofs.ExprLaws.{range-of}
-use Rattle.places.specs.Parts.{Located, ReadEach}
+use Rattle.places.specs.Parts.{ReadEach}
 
 -- kinds
 pub fits-yes : (t : List ℕ) (r : Range) (b : Bool) (m : Mem) → b ≡ true → m ≡ pick b m (memR t .note m 4 r 1)
@@ -65,26 +63,6 @@ swap-of s t base left k r p q q1 m m1 m2 m3 m4 x y f a b h e e1 = record {
   result = λ child. rw (place-same s left p, ← a .place, ← a .result, ← b .result, e1, e, h);
 }
 
--- LOCATE
-pub located-absent : (s t : List ℕ) (base left call at k p : ℕ) (m : Mem) → k ≡ kindAt s at → k ≡ 2 → p ≡ next s at → Located s t base left call at m m p
-located-absent s t base left call at k p m e h f =
-    let g : kindAt s at ≡ 2 = inv e ∙ h in record { place = rw (eq-eqb _ _ g, f); result = rw (eq-eqb _ _ g) }
-
-pub located-given : (s t : List ℕ) (base left call at k p : ℕ) (r : Range) (m m1 m2 : Mem) → k ≡ kindAt s at → (k ≡ 2 → ⊥) → CompiledTyped s t base left at Real m m1 p
-    → r ≡ rangeAt s (next s at) → m2 ≡ memR t .emit m1 call r 0 0 0 → Located s t base left call at m m2 p
-located-given s t base left call at k p r m m1 m2 e h x hr f =
-    let g : kindAt s at ≡ 2 → ⊥ = λ q. h (e ∙ q) in
-    record { place = rw (ne-eqb _ _ g) (x .place); result = rw (ne-eqb _ _ g, f, x .result, hr, range-of s left at) }
-
-pub locate-of : (s t : List ℕ) (base left k : ℕ) (r : Range) (p q q1 : ℕ) (m m1 m2 : Mem) → Located s t base left 36 p m m1 q → Located s t base left 37 q m1 m2 q1
-    → Body s t base left Locate k r p m m2 q1
-unfolding stmtNode compileStmt compileLocate skipFields skipField skipTimes skipPair skipItem
-locate-of s t base left k r p q q1 m m1 m2 x y = record {
-  place = y .place ∙ ap (λ u. choose (isAbsent s u) (next s) (skipNode s left exprSort) u) (x .place);
-  result = λ child. y .result ∙ ap (λ u. locatePart (memR t) t base 37 (optAt s (exprAt s left) u) m1) (x .place)
-      ∙ ap (locatePart (memR t) t base 37 (optAt s (exprAt s left) (choose (isAbsent s p) (next s) (skipNode s left exprSort) p))) (x .result);
-}
-
 -- READ: one turn of the loop over places
 pub read-place : (s t : List ℕ) (base left n at p : ℕ) (m m1 : Mem) (ty : Ty) → 0 < n → CompiledPlace s t base left at m m1 p ty
     → skipRepeat s (skipNode s left placeSort) (n - 1) p ≡ skipRepeat s (skipNode s left placeSort) n at
@@ -109,9 +87,9 @@ unfolding exprsAt compileRead skipRepeat
 read-done s t base left zero k at at₀ m m₀ h p q = record { place = p; result = q }
 read-done s t base left (suc n) k at at₀ m m₀ h p q = absurd (omega arith)
 
-pub read-of : (s t : List ℕ) (base left k : ℕ) (r : Range) (p n q q1 : ℕ) (m m1 : Mem) → CountAt s p n q → ReadEach s t base left q n m m1 q1 → Body s t base left Read k r p m m1 q1
+pub read-of : (s t : List ℕ) (base left k : ℕ) (r : Range) (p n q q1 : ℕ) (m m1 : Mem) → PayloadAt s p n q → ReadEach s t base left q n m m1 q1 → Body s t base left Read k r p m m1 q1
 unfolding stmtNode compileStmt skipFields skipField skipTimes skipPair skipItem skipList
 read-of s t base left k r p n q q1 m m1 c x = record {
-  place = rw (← c .place, ← c .count) (x .place);
-  result = λ child. rw (← c .place, ← c .count) (x .result);
+  place = rw (← c .place, ← c .value) (x .place);
+  result = λ child. rw (← c .place, ← c .value) (x .result);
 }

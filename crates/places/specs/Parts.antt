@@ -1,19 +1,12 @@
--- The contracts' shapes for LOCATE's parts and READ's places.
+-- The contract's shape for READ's places.
 use mathlib.Core.Path.{_≡_}
 use mathlib.Core.List.{List}
 use Prim.Native.Nat.{ℕ}
-use Rattle.recorder.specs.Word.{next, choose}
 use Rattle.recorder.specs.Mem.{Mem, memR}
-use Rattle.sheet.specs.declared.form.Sort.the-variants.{Expr as exprSort, Place as placeSort}
-use Rattle.sheet.specs.Form.{isAbsent}
+use Rattle.sheet.specs.declared.form.Sort.the-variants.{Place as placeSort}
 use Rattle.sheet.specs.Skip.{skipNode, skipRepeat}
-use Rattle.sheet.specs.Tree.{exprAt, exprsAt, optAt}
-use Rattle.rules.specs.Stmt.{locatePart, compileRead}
-
--- a part of LOCATE, which may be absent
-pub record Located (s t : List ℕ) (base left call at : ℕ) (m m′ : Mem) (p : ℕ) : Type 0 where
-  pub place : p ≡ choose (isAbsent s at) (next s) (skipNode s left exprSort) at
-  pub result : m′ ≡ locatePart (memR t) t base call (optAt s (exprAt s left) at) m
+use Rattle.sheet.specs.Tree.{exprAt, exprsAt}
+use Rattle.rules.specs.Stmt.{compileRead}
 
 -- n places of a READ
 pub record ReadEach (s t : List ℕ) (base left at n : ℕ) (m m′ : Mem) (p : ℕ) : Type 0 where

@@ -1,2 +1,2 @@
-// Statements compiled: LET, SWAP, LOCATE and READ of compile_stmt of compiler.rs.
+// Statements compiled: LET, SWAP and READ of compile_stmt of compiler.rs.
 pub mod place;

@@ -1,5 +1,5 @@
-// Statements that store, which are LET, SWAP and READ; and LOCATE.
-use expressions::expr::Went;
+// Statements that store: LET, SWAP and READ.
+use expressions::expr::Behind;
 use recorder::codegen::St;
 use recorder::word::Range;
 use rules::types::Type;
@@ -11,7 +11,7 @@ ghost use Rattle.recorder.specs.Word.{pick};
 ghost use Rattle.recorder.specs.Mem.{mem, memR};
 ghost use Rattle.rules.specs.Stmt.{assignCall, assignNode};
 ghost use Rattle.expressions.specs.Body.{Body};
-ghost use Rattle.places.specs.Parts.{Located, ReadEach};
+ghost use Rattle.places.specs.Parts.{ReadEach};
 
 // A note of class 4 where two kinds do not fit.
 fn fits_note(notes: &mut [u32], st: St, r: Range, fits: bool) -> St
@@ -55,7 +55,7 @@ pub fn compile_let(
     at: usize,
     left: usize,
     r: Range,
-) -> Went
+) -> Behind
     ensures { λ x. ⌜ ((k : ℕ) → Body (now (sheet .entry)) (now (text .entry)) base left Shape.Let k r at (mem (now (list .entry)) (now (notes .entry)) (now (book .entry)) st) (mem (now (list .exit)) (now (notes .exit)) (now (book .exit)) (x .st)) (x .at)) ⌝ }
 {
     let x = expressions::expr::compile_lvalue(sheet, text, list, notes, book, st, base, at, left);
@@ -65,7 +65,7 @@ pub fn compile_let(
     let ys = y.st;
     let yt = y.ty;
     let s = assign_node(list, notes, ys, r, xt, yt);
-    Went { st: s, at: y.at }
+    Behind { st: s, at: y.at }
 }
 
 pub fn compile_swap(
@@ -79,7 +79,7 @@ pub fn compile_swap(
     at: usize,
     left: usize,
     r: Range,
-) -> Went
+) -> Behind
     ensures { λ x. ⌜ ((k : ℕ) → Body (now (sheet .entry)) (now (text .entry)) base left Shape.Swap k r at (mem (now (list .entry)) (now (notes .entry)) (now (book .entry)) st) (mem (now (list .exit)) (now (notes .exit)) (now (book .exit)) (x .st)) (x .at)) ⌝ }
 {
     let x = expressions::expr::compile_lvalue(sheet, text, list, notes, book, st, base, at, left);
@@ -91,100 +91,7 @@ pub fn compile_swap(
     let fits = rules::types::exact_matches(xt, yt);
     let cs = fits_note(notes, ys, r, fits);
     let s = recorder::codegen::emit_op(list, cs, r, 58, 2);
-    Went { st: s, at: y.at }
-}
-
-fn locate_row(
-    sheet: &[u32],
-    text: &[u16],
-    list: &mut [u32],
-    notes: &mut [u32],
-    book: &mut [u32],
-    st: St,
-    base: u32,
-    at: usize,
-    left: usize,
-) -> Went
-    ensures { λ x. ⌜ Located (now (sheet .entry)) (now (text .entry)) base left 36 at (mem (now (list .entry)) (now (notes .entry)) (now (book .entry)) st) (mem (now (list .exit)) (now (notes .exit)) (now (book .exit)) (x .st)) (x .at) ⌝ }
-{
-    if recorder::word::kind_at(sheet, at) == 2 {
-        return Went {
-            st,
-            at: recorder::word::behind(sheet, at),
-        };
-    }
-    let x = expressions::expr::compile_typed(
-        sheet,
-        text,
-        list,
-        notes,
-        book,
-        st,
-        base,
-        at,
-        left,
-        Type::Real,
-    );
-    let xs = x.st;
-    let r = expressions::expr::expr_range(sheet, at);
-    let s = recorder::codegen::emit_set_row(list, xs, r);
-    Went { st: s, at: x.at }
-}
-
-fn locate_column(
-    sheet: &[u32],
-    text: &[u16],
-    list: &mut [u32],
-    notes: &mut [u32],
-    book: &mut [u32],
-    st: St,
-    base: u32,
-    at: usize,
-    left: usize,
-) -> Went
-    ensures { λ x. ⌜ Located (now (sheet .entry)) (now (text .entry)) base left 37 at (mem (now (list .entry)) (now (notes .entry)) (now (book .entry)) st) (mem (now (list .exit)) (now (notes .exit)) (now (book .exit)) (x .st)) (x .at) ⌝ }
-{
-    if recorder::word::kind_at(sheet, at) == 2 {
-        return Went {
-            st,
-            at: recorder::word::behind(sheet, at),
-        };
-    }
-    let x = expressions::expr::compile_typed(
-        sheet,
-        text,
-        list,
-        notes,
-        book,
-        st,
-        base,
-        at,
-        left,
-        Type::Real,
-    );
-    let xs = x.st;
-    let r = expressions::expr::expr_range(sheet, at);
-    let s = recorder::codegen::emit_set_column(list, xs, r);
-    Went { st: s, at: x.at }
-}
-
-pub fn compile_locate(
-    sheet: &[u32],
-    text: &[u16],
-    list: &mut [u32],
-    notes: &mut [u32],
-    book: &mut [u32],
-    st: St,
-    base: u32,
-    at: usize,
-    left: usize,
-    r: Range,
-) -> Went
-    ensures { λ x. ⌜ ((k : ℕ) → Body (now (sheet .entry)) (now (text .entry)) base left Shape.Locate k r at (mem (now (list .entry)) (now (notes .entry)) (now (book .entry)) st) (mem (now (list .exit)) (now (notes .exit)) (now (book .exit)) (x .st)) (x .at)) ⌝ }
-{
-    let x = locate_row(sheet, text, list, notes, book, st, base, at, left);
-    let xs = x.st;
-    locate_column(sheet, text, list, notes, book, xs, base, x.at, left)
+    Behind { st: s, at: y.at }
 }
 
 // So many places, each with the record that reads it.
@@ -199,7 +106,7 @@ fn read_each(
     at: usize,
     n: u32,
     left: usize,
-) -> Went
+) -> Behind
     ensures { λ x. ⌜ ReadEach (now (sheet .entry)) (now (text .entry)) base left at n (mem (now (list .entry)) (now (notes .entry)) (now (book .entry)) st) (mem (now (list .exit)) (now (notes .exit)) (now (book .exit)) (x .st)) (x .at) ⌝ }
 {
     let mut s = st;
@@ -208,12 +115,12 @@ fn read_each(
     while 0 < more {
         let x = expressions::expr::compile_lvalue(sheet, text, list, notes, book, s, base, p, left);
         let xs = x.st;
-        let r = expressions::expr::expr_range(sheet, p);
+        let r = expressions::expr::node_range(sheet, p);
         s = recorder::codegen::emit_read(list, xs, r);
         p = x.at;
         more -= 1;
     }
-    Went { st: s, at: p }
+    Behind { st: s, at: p }
 }
 
 pub fn compile_read(
@@ -227,10 +134,10 @@ pub fn compile_read(
     at: usize,
     left: usize,
     r: Range,
-) -> Went
+) -> Behind
     ensures { λ x. ⌜ ((k : ℕ) → Body (now (sheet .entry)) (now (text .entry)) base left Shape.Read k r at (mem (now (list .entry)) (now (notes .entry)) (now (book .entry)) st) (mem (now (list .exit)) (now (notes .exit)) (now (book .exit)) (x .st)) (x .at)) ⌝ }
 {
-    let c = expressions::expr::count_at(sheet, at);
+    let c = expressions::expr::read_payload(sheet, at);
     read_each(
         sheet,
         text,
@@ -240,7 +147,7 @@ pub fn compile_read(
         st,
         base,
         c.at,
-        c.count,
+        c.value,
         left,
     )
 }

@@ -15,13 +15,13 @@ use Rattle.sheet.specs.declared.form.Sort.the-variants.{Expr as exprSort}
 use Rattle.sheet.specs.declared.form.Shape.the-variants.{Print}
 use Rattle.sheet.specs.Table.{exprFields}
 use Rattle.sheet.specs.Skip.{skipNode, skipRepeat, skipList, skipFields, skipField, skipTimes, skipPair, skipItem, skipElement}
-use Rattle.sheet.specs.Tree.{Expr, sysFuncCall, Stmt, PrintElement, value, semicolon, exprRange, exprAt, exprNode, exprsAt, itemsAt, elementAt, elementOf, stmtNode}
+use Rattle.sheet.specs.Tree.{Expr, sysFuncCall, Stmt, PrintElement, value, semicolon, exprRange, exprAt, exprNode, itemsAt, elementAt, elementOf, stmtNode, argsAt}
 use Rattle.rules.specs.declared.types.«Type».{«Type» as Ty}
 use Rattle.rules.specs.declared.types.«Type».the-variants.{Real}
 use Rattle.rules.specs.declared.tables.Wants.the-variants.{Func}
 use Rattle.rules.specs.Types.{matchesType}
 use Rattle.rules.specs.Stmt.{compileStmt, isTabSpc, isValue, surplusNotes, tabCall, printValue, blankBetween, behindValue, printOne, printEach, emptyLine, compilePrint}
-use Rattle.nodes.specs.Done.{Compiled, CompiledArgs, CountAt}
+use Rattle.nodes.specs.Compiled.{Compiled, CompiledArgs, PayloadAt}
 use Rattle.expressions.specs.Body.{Body}
 use Rattle.expressions.proofs.Lists.{items-step, repeat-step}
 use Rattle.expressions.proofs.ExprLaws.{range-of}
@@ -149,12 +149,12 @@ behind-is s t base left child b r er g (suc (suc n)) at m =
     let v : isValue (elementOf s left child (payloadAt s at) (next s at)) ≡ eqb (payloadAt s at) 0 = value-is s left child (payloadAt s at) (next s at) in
     rw (e, le-ltb _ _ h, v)
 
-pub tab-of : (s t : List ℕ) (base left : ℕ) (r : Range) (at q k q1 n q2 p : ℕ) (m m1 m2 m3 : Mem) → q ≡ next s at → CountAt s q k q1 → CountAt s q1 n q2
-    → m1 ≡ surplusNotes (memR t) t base 1 (exprsAt s (exprAt s left) (skipNode s left exprSort) n q2) m → CompiledArgs s t base left q2 n (Func k) m1 m2 p → m3 ≡ tabEmit (memR t) r k m2
+pub tab-of : (s t : List ℕ) (base left : ℕ) (r : Range) (at q k q1 n q2 p : ℕ) (m m1 m2 m3 : Mem) → q ≡ next s at → PayloadAt s q k q1 → PayloadAt s q1 n q2
+    → m1 ≡ surplusNotes (memR t) t base 1 (argsAt s left n q2) m → CompiledArgs s t base left q2 n (Func k) m1 m2 p → m3 ≡ tabEmit (memR t) r k m2
     → Tabbed s t base left r at m m3 p
 tab-of s t base left r at q k q1 n q2 p m m1 m2 m3 hq c d e x f = record {
-  place = rw (← hq, ← c .place, ← d .place, ← d .count) (x .place);
-  result = rw (← hq, ← c .place, ← c .count, ← d .place, ← d .count, f, x .result, e);
+  place = rw (← hq, ← c .place, ← d .place, ← d .value) (x .place);
+  result = rw (← hq, ← c .place, ← c .value, ← d .place, ← d .value, f, x .result, e);
 }
 
 -- elements
@@ -195,15 +195,15 @@ value-plain s t base left n r er at p b m m1 m2 m3 ty hr hb h x e f = record {
   result = λ child. plain-value t base r er (exprAt s left at) (itemsAt s (elementAt s left child) (overElement s left) (n - 1) p) m m2 m3 (inv hb ∙ h) (hr ∙ inv (range-of s left at)) (printed-is s t base left er at p m m1 m2 ty hr x e) (f ∙ behind-is s t base left child false r er (overElement s left) n p m2);
 }
 
-pub one-value : (s t : List ℕ) (base left n : ℕ) (r : Range) (at k q p : ℕ) (m m1 : Mem) → CountAt s at k q → k ≡ 0 → Valued s t base left n r q m m1 p → OnePrinted s t base left n r at m m1 p
+pub one-value : (s t : List ℕ) (base left n : ℕ) (r : Range) (at k q p : ℕ) (m m1 : Mem) → PayloadAt s at k q → k ≡ 0 → Valued s t base left n r q m m1 p → OnePrinted s t base left n r at m m1 p
 one-value s t base left n r at k q p m m1 c e x =
-    let g : payloadAt s at ≡ 0 = inv (c .count) ∙ e in
+    let g : payloadAt s at ≡ 0 = inv (c .value) ∙ e in
     record { place = rw (g, ← c .place) (x .place); result = λ child. rw (g, ← c .place) (x .result child) }
 
-pub one-comma : (s t : List ℕ) (base left n : ℕ) (r er : Range) (at k q p : ℕ) (m m1 : Mem) → CountAt s at k q → k ≡ 1 → er ≡ rangeAt s q → m1 ≡ memR t .emit m 42 er 0 0 0 → p ≡ next s q
+pub one-comma : (s t : List ℕ) (base left n : ℕ) (r er : Range) (at k q p : ℕ) (m m1 : Mem) → PayloadAt s at k q → k ≡ 1 → er ≡ rangeAt s q → m1 ≡ memR t .emit m 42 er 0 0 0 → p ≡ next s q
     → OnePrinted s t base left n r at m m1 p
 one-comma s t base left n r er at k q p m m1 c e hr f hp =
-    let g : payloadAt s at ≡ 1 = inv (c .count) ∙ e in
+    let g : payloadAt s at ≡ 1 = inv (c .value) ∙ e in
     record { place = rw (g, ← c .place) hp; result = λ child. rw (g, ← c .place, f, hr) }
 
 semicolon-is : (s : List ℕ) (left : ℕ) (child : ℕ → Stmt) (k p : ℕ) → (k ≡ 0 → ⊥) → (k ≡ 1 → ⊥) → elementOf s left child k p ≡ semicolon (rangeAt s p)
@@ -215,11 +215,11 @@ over-semicolon : (s : List ℕ) (c : Sort → ℕ → ℕ) (k p : ℕ) → (k �
 over-semicolon s c zero p a = absurd (a refl)
 over-semicolon s c (suc k) p a = refl
 
-pub one-semicolon : (s t : List ℕ) (base left n : ℕ) (r : Range) (at k q p : ℕ) (m : Mem) → CountAt s at k q → (k ≡ 0 → ⊥) → (k ≡ 1 → ⊥) → p ≡ next s q
+pub one-semicolon : (s t : List ℕ) (base left n : ℕ) (r : Range) (at k q p : ℕ) (m : Mem) → PayloadAt s at k q → (k ≡ 0 → ⊥) → (k ≡ 1 → ⊥) → p ≡ next s q
     → OnePrinted s t base left n r at m m p
 one-semicolon s t base left n r at k q p m c a b hp = record {
-  place = rw (← c .count, ← c .place, over-semicolon s (skipNode s left) k q a) hp;
-  result = λ child. rw (← c .count, ← c .place, semicolon-is s left child k q a b);
+  place = rw (← c .value, ← c .place, over-semicolon s (skipNode s left) k q a) hp;
+  result = λ child. rw (← c .value, ← c .place, semicolon-is s left child k q a b);
 }
 
 pub print-place : (s t : List ℕ) (base left n : ℕ) (r : Range) (at p : ℕ) (m m1 : Mem) → 0 < n → OnePrinted s t base left n r at m m1 p
@@ -263,10 +263,10 @@ print-result s t base r f g n at m m1 m2 m3 p q e =
     let w : m2 ≡ emptyLine (memR t) t base r (itemsAt s f g n at) m1 = q ∙ empty-is s t base r f g n at m1 in
     rw (e, w, p)
 
-pub print-of : (s t : List ℕ) (base left k : ℕ) (r : Range) (at n q p : ℕ) (m m1 m2 m3 : Mem) → CountAt s at n q → Printed s t base left n r q m m1 p → m2 ≡ blankLine (memR t) n r m1
+pub print-of : (s t : List ℕ) (base left k : ℕ) (r : Range) (at n q p : ℕ) (m m1 m2 m3 : Mem) → PayloadAt s at n q → Printed s t base left n r q m m1 p → m2 ≡ blankLine (memR t) n r m1
     → m3 ≡ memR t .emit m2 43 r 0 0 0 → Body s t base left Print k r at m m3 p
 unfolding skipFields skipField skipTimes skipPair skipItem skipList stmtNode compileStmt
 print-of s t base left k r at n q p m m1 m2 m3 c x e f = record {
-  place = rw (← c .place, ← c .count) (x .place);
-  result = λ child. rw (← c .place, ← c .count) (print-result s t base r (elementAt s left child) (overElement s left) n q m m1 m2 m3 (x .result child) e f);
+  place = rw (← c .place, ← c .value) (x .place);
+  result = λ child. rw (← c .place, ← c .value) (print-result s t base r (elementAt s left child) (overElement s left) n q m m1 m2 m3 (x .result child) e f);
 }

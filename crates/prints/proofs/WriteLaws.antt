@@ -4,13 +4,14 @@ use mathlib.Core.List.{List, _∷_}
 use mathlib.Core.Bool.{Bool, true, false}
 use Prim.Native.Nat.{ℕ, zero, suc, _-_, _≤_, _<_}
 use lib.Dec.{eqb}
-use borrow.Author.Tests.{eq-eqb, ne-eqb}
+use borrow.Author.Tests.{ne-eqb}
 use native.Mathlib.Omega.{arith}
 use Rattle.recorder.specs.declared.word.Range.{Range}
-use Rattle.recorder.specs.Word.{either, kindAt, rangeAt, next}
+use Rattle.recorder.specs.Word.{either, rangeAt, next}
 use Rattle.recorder.specs.Mem.{Mem, memR}
 use Rattle.sheet.specs.declared.form.Sort.the-variants.{Expr as exprSort}
 use Rattle.sheet.specs.declared.form.Shape.the-variants.{Write}
+use Rattle.sheet.specs.Form.{isAbsent}
 use Rattle.sheet.specs.Skip.{skipNode, skipRepeat, skipList, skipFields, skipField, skipTimes, skipPair, skipItem}
 use Rattle.sheet.specs.Tree.{Expr, WriteElement, exprRange, exprAt, itemsAt, stmtNode, writeElementAt}
 use Rattle.rules.specs.declared.types.«Type».{«Type» as Ty}
@@ -18,11 +19,11 @@ use Rattle.rules.specs.declared.types.«Type».the-variants.{Real}
 use Rattle.rules.specs.Types.{matchesType}
 use Rattle.rules.specs.Expr.{compileExpr}
 use Rattle.rules.specs.Stmt.{compileStmt, flagOf, isLast, writeValue, writeEach}
-use Rattle.nodes.specs.Done.{Compiled, CompiledTyped, CountAt}
+use Rattle.nodes.specs.Compiled.{Compiled, CompiledTyped, PayloadAt}
 use Rattle.expressions.specs.Body.{Body}
 use Rattle.expressions.proofs.Lists.{items-step, repeat-step}
 use Rattle.expressions.proofs.ExprLaws.{range-of}
-use Rattle.prints.specs.Parts.{element, keptCall, droppedCall, Written}
+use Rattle.prints.specs.Parts.{element, keptCall, droppedCall, WritesDone}
 
 pub last-kept : (n c : ℕ) → n ≡ 1 → true ≡ either (eqb n 1) (eqb c 1)
 last-kept n c e = rw e
@@ -69,7 +70,7 @@ last-of s f g (suc (suc n)) at h =
     let z : suc (suc n) ≡ 1 → ⊥ = λ q. omega (arith, q) in
     a ∙ inv (ne-eqb _ _ z)
 
-pub write-place : (s t : List ℕ) (base left n at q c p : ℕ) (m m1 : Mem) (ty : Ty) → 0 < n → Compiled s t base left at m m1 q ty → CountAt s q c p
+pub write-place : (s t : List ℕ) (base left n at q c p : ℕ) (m m1 : Mem) (ty : Ty) → 0 < n → Compiled s t base left at m m1 q ty → PayloadAt s q c p
     → skipRepeat s (λ z. next s (skipNode s left exprSort z)) (n - 1) p ≡ skipRepeat s (λ z. next s (skipNode s left exprSort z)) n at
 write-place s t base left n at q c p m m1 ty h x k = rw (repeat-step s (λ z. next s (skipNode s left exprSort z)) n at h, ← x .place, k .place)
 
@@ -78,40 +79,39 @@ each-more : (t : List ℕ) (base f : ℕ) (d : WriteElement) (ds : List WriteEle
 unfolding writeEach
 each-more t base f d ds m = refl
 
-pub write-step : (s t : List ℕ) (base left f n at q c p : ℕ) (r : Range) (m m1 m2 : Mem) (ty : Ty) → 0 < n → Compiled s t base left at m m1 q ty → CountAt s q c p
+pub write-step : (s t : List ℕ) (base left f n at q c p : ℕ) (r : Range) (m m1 m2 : Mem) (ty : Ty) → 0 < n → Compiled s t base left at m m1 q ty → PayloadAt s q c p
     → r ≡ rangeAt s (next s at) → ((e : Expr) → r ≡ exprRange e → m2 ≡ writeValue (memR t) t base f (element e c) (eqb n 1) ty m1)
     → writeEach (memR t) t base f (itemsAt s (writeElementAt s left) (λ z. next s (skipNode s left exprSort z)) (n - 1) p) m2
     ≡ writeEach (memR t) t base f (itemsAt s (writeElementAt s left) (λ z. next s (skipNode s left exprSort z)) n at) m
 write-step s t base left f n at q c p r m m1 m2 ty h x k hr v =
     let w : m2 ≡ writeValue (memR t) t base f (element (exprAt s left at) c) (eqb n 1) ty m1 = v (exprAt s left at) (hr ∙ inv (range-of s left at)) in
-    rw (items-step s (writeElementAt s left) (λ z. next s (skipNode s left exprSort z)) n at h, each-more, ← x .place, ← k .place, ← k .count, last-of s (writeElementAt s left) (λ z. next s (skipNode s left exprSort z)) n p h, ← x .result, w)
+    rw (items-step s (writeElementAt s left) (λ z. next s (skipNode s left exprSort z)) n at h, each-more, ← x .place, ← k .place, ← k .value, last-of s (writeElementAt s left) (λ z. next s (skipNode s left exprSort z)) n p h, ← x .result, w)
 
 pub write-end : (s t : List ℕ) (base left f n k at at₀ : ℕ) (m m₀ : Mem) → n ≤ 0
     → skipRepeat s (λ z. next s (skipNode s left exprSort z)) n at ≡ skipRepeat s (λ z. next s (skipNode s left exprSort z)) k at₀
     → writeEach (memR t) t base f (itemsAt s (writeElementAt s left) (λ z. next s (skipNode s left exprSort z)) n at) m
     ≡ writeEach (memR t) t base f (itemsAt s (writeElementAt s left) (λ z. next s (skipNode s left exprSort z)) k at₀) m₀
-    → Written s t base left f k at₀ m₀ m at
+    → WritesDone s t base left f k at₀ m₀ m at
 unfolding itemsAt writeEach skipRepeat
 write-end s t base left f zero k at at₀ m m₀ h p q = record { place = p; result = q }
 write-end s t base left f (suc n) k at at₀ m m₀ h p q = absurd (omega arith)
 
-pub write-screen : (s t : List ℕ) (base left k : ℕ) (r : Range) (at w q n q1 p : ℕ) (m m1 m2 : Mem) → w ≡ kindAt s at → w ≡ 2 → q ≡ next s at → CountAt s q n q1
-    → Written s t base left 0 n q1 m m1 p → m2 ≡ memR t .emit m1 43 r 0 0 0 → Body s t base left Write k r at m m2 p
+pub write-screen : (s t : List ℕ) (base left k : ℕ) (r : Range) (at : ℕ) (w : Bool) (q n q1 p : ℕ) (m m1 m2 : Mem) → w ≡ isAbsent s at → w ≡ true → q ≡ next s at → PayloadAt s q n q1
+    → WritesDone s t base left 0 n q1 m m1 p → m2 ≡ memR t .emit m1 43 r 0 0 0 → Body s t base left Write k r at m m2 p
 unfolding skipFields skipField skipTimes skipPair skipItem skipList stmtNode compileStmt
 write-screen s t base left k r at w q n q1 p m m1 m2 e h hq c x f =
-    let g : kindAt s at ≡ 2 = inv e ∙ h in
+    let g : isAbsent s at ≡ true = inv e ∙ h in
     record {
-      place = rw (eq-eqb _ _ g, ← hq, ← c .place, ← c .count) (x .place);
-      result = λ child. rw (eq-eqb _ _ g, ← hq, ← c .place, ← c .count, ← x .result) f;
+      place = rw (g, ← hq, ← c .place, ← c .value) (x .place);
+      result = λ child. rw (g, ← hq, ← c .place, ← c .value, ← x .result) f;
     }
 
-pub write-file : (s t : List ℕ) (base left k : ℕ) (r : Range) (at w q n q1 p : ℕ) (m m1 m2 : Mem) → w ≡ kindAt s at → (w ≡ 2 → ⊥) → CompiledTyped s t base left at Real m m1 q
-    → CountAt s q n q1 → Written s t base left 1 n q1 m1 m2 p → Body s t base left Write k r at m m2 p
+pub write-file : (s t : List ℕ) (base left k : ℕ) (r : Range) (at : ℕ) (w : Bool) (q n q1 p : ℕ) (m m1 m2 : Mem) → w ≡ isAbsent s at → w ≡ false → CompiledTyped s t base left at Real m m1 q
+    → PayloadAt s q n q1 → WritesDone s t base left 1 n q1 m1 m2 p → Body s t base left Write k r at m m2 p
 unfolding skipFields skipField skipTimes skipPair skipItem skipList stmtNode compileStmt
 write-file s t base left k r at w q n q1 p m m1 m2 e h x c y =
-    let g : kindAt s at ≡ 2 → ⊥ = λ z. h (e ∙ z) in
-    let b : eqb (kindAt s at) 2 ≡ false = ne-eqb _ _ g in
+    let b : isAbsent s at ≡ false = inv e ∙ h in
     record {
-      place = rw (b, ← x .place, ← c .place, ← c .count) (y .place);
-      result = λ child. rw (b, ← x .place, ← c .place, ← c .count, ← x .result) (y .result);
+      place = rw (b, ← x .place, ← c .place, ← c .value) (y .place);
+      result = λ child. rw (b, ← x .place, ← c .place, ← c .value, ← x .result) (y .result);
     }

@@ -10,7 +10,7 @@ use Rattle.recorder.specs.Recorder.{Recorder}
 use Rattle.recorder.specs.Mem.{Mem, memR}
 use Rattle.sheet.specs.declared.form.Sort.the-variants.{Expr as exprSort}
 use Rattle.sheet.specs.Skip.{skipNode, skipRepeat, skipElement}
-use Rattle.sheet.specs.Tree.{Expr, Exprs, WriteElement, value, Stmt, exprAt, exprsAt, itemsAt, elementAt, writeElementAt}
+use Rattle.sheet.specs.Tree.{Expr, Exprs, WriteElement, value, Stmt, exprAt, itemsAt, elementAt, writeElementAt, argsAt}
 use Rattle.rules.specs.declared.types.«Type».{«Type» as Ty}
 use Rattle.rules.specs.declared.types.«Type».the-variants.{Real}
 use Rattle.rules.specs.Types.{matchesType}
@@ -29,7 +29,7 @@ abbrev pub droppedCall : {S : Type 0} → Recorder S → Range → Ty → S → 
 droppedCall R r ty u = R .emit u (pick (matchesType ty Real) 46 47) r 0 0 0
 
 -- n values of WRITE from a place on
-pub record Written (s t : List ℕ) (base left toFile n at : ℕ) (m m′ : Mem) (p : ℕ) : Type 0 where
+pub record WritesDone (s t : List ℕ) (base left toFile n at : ℕ) (m m′ : Mem) (p : ℕ) : Type 0 where
   pub place : p ≡ skipRepeat s (λ q. next s (skipNode s left exprSort q)) n at
   pub result : m′ ≡ writeEach (memR t) t base toFile (itemsAt s (writeElementAt s left) (λ q. next s (skipNode s left exprSort q)) n at) m
 
@@ -53,7 +53,7 @@ blankLine R n r u = pick (eqb n 0) (R .emit u 42 r 0 0 0) u
 
 -- the arguments of TAB or SPC, whose function's range is at a place
 abbrev pub argsHere : List ℕ → ℕ → ℕ → Exprs
-argsHere s left at = exprsAt s (exprAt s left) (skipNode s left exprSort) (payloadAt s (next s (next s at))) (next s (next s (next s at)))
+argsHere s left at = argsAt s left (payloadAt s (next s (next s at))) (next s (next s (next s at)))
 
 pub record Tabbed (s t : List ℕ) (base left : ℕ) (r : Range) (at : ℕ) (m m′ : Mem) (p : ℕ) : Type 0 where
   pub place : p ≡ skipRepeat s (skipNode s left exprSort) (payloadAt s (next s (next s at))) (next s (next s (next s at)))

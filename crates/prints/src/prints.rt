@@ -1,5 +1,5 @@
 // compile_print of compiler.rs.
-use expressions::expr::Went;
+use expressions::expr::Behind;
 use recorder::codegen::St;
 use recorder::word::Range;
 use rules::tables::Wants;
@@ -116,13 +116,13 @@ fn tab_call(
     at: usize,
     left: usize,
     r: Range,
-) -> Went
+) -> Behind
     ensures { λ x. ⌜ Tabbed (now (sheet .entry)) (now (text .entry)) base left r at (mem (now (list .entry)) (now (notes .entry)) (now (book .entry)) st) (mem (now (list .exit)) (now (notes .exit)) (now (book .exit)) (x .st)) (x .at) ⌝ }
 {
     let q = recorder::word::behind(sheet, at);
-    let f = expressions::expr::count_at(sheet, q);
-    let c = expressions::expr::count_at(sheet, f.at);
-    let ns = expressions::surplus::surplus_notes(sheet, notes, st, c.at, c.count, 1, left);
+    let f = expressions::expr::read_payload(sheet, q);
+    let c = expressions::expr::read_payload(sheet, f.at);
+    let ns = expressions::surplus::surplus_notes(sheet, notes, st, c.at, c.value, 1, left);
     let x = expressions::expr::compile_args(
         sheet,
         text,
@@ -132,13 +132,13 @@ fn tab_call(
         ns,
         base,
         c.at,
-        c.count,
-        Wants::Func(f.count),
+        c.value,
+        Wants::Func(f.value),
         left,
     );
     let xs = x.st;
-    let s = tab_emit(list, xs, r, f.count);
-    Went { st: s, at: x.at }
+    let s = tab_emit(list, xs, r, f.value);
+    Behind { st: s, at: x.at }
 }
 
 // An expression as an element: `more` counts it and the elements behind it.
@@ -154,23 +154,23 @@ fn print_value(
     left: usize,
     more: u32,
     r: Range,
-) -> Went
+) -> Behind
     ensures { λ x. ⌜ Valued (now (sheet .entry)) (now (text .entry)) base left more r at (mem (now (list .entry)) (now (notes .entry)) (now (book .entry)) st) (mem (now (list .exit)) (now (notes .exit)) (now (book .exit)) (x .st)) (x .at) ⌝ }
 {
-    let er = expressions::expr::expr_range(sheet, at);
+    let er = expressions::expr::node_range(sheet, at);
     if is_tab_spc(sheet, at, left) {
         let p = recorder::word::behind(sheet, recorder::word::behind(sheet, at));
         let x = tab_call(sheet, text, list, notes, book, st, base, p, left - 1, er);
         let xs = x.st;
         let s = behind_value(sheet, list, xs, x.at, more, true, er, r);
-        return Went { st: s, at: x.at };
+        return Behind { st: s, at: x.at };
     }
     let x = expressions::expr::compile_expr(sheet, text, list, notes, book, st, base, at, left);
     let xs = x.st;
     let xt = x.ty;
     let vs = print_call(list, xs, er, xt);
     let s = behind_value(sheet, list, vs, x.at, more, false, er, r);
-    Went { st: s, at: x.at }
+    Behind { st: s, at: x.at }
 }
 
 // One element: `more` counts it and those behind it.
@@ -186,7 +186,7 @@ fn print_one(
     left: usize,
     more: u32,
     r: Range,
-) -> Went
+) -> Behind
     ensures { λ x. ⌜ OnePrinted (now (sheet .entry)) (now (text .entry)) base left more r at (mem (now (list .entry)) (now (notes .entry)) (now (book .entry)) st) (mem (now (list .exit)) (now (notes .exit)) (now (book .exit)) (x .st)) (x .at) ⌝ }
 {
     let k = recorder::word::payload_at(sheet, at);
@@ -197,9 +197,9 @@ fn print_one(
         1 => {
             let er = recorder::word::range_at(sheet, q);
             let s = recorder::codegen::emit_newline(list, st, er);
-            Went { st: s, at: p }
+            Behind { st: s, at: p }
         }
-        _ => Went { st, at: p },
+        _ => Behind { st, at: p },
     }
 }
 
@@ -216,7 +216,7 @@ fn print_each(
     left: usize,
     n: u32,
     r: Range,
-) -> Went
+) -> Behind
     ensures { λ x. ⌜ Printed (now (sheet .entry)) (now (text .entry)) base left n r at (mem (now (list .entry)) (now (notes .entry)) (now (book .entry)) st) (mem (now (list .exit)) (now (notes .exit)) (now (book .exit)) (x .st)) (x .at) ⌝ }
 {
     let mut s = st;
@@ -228,7 +228,7 @@ fn print_each(
         p = x.at;
         more -= 1;
     }
-    Went { st: s, at: p }
+    Behind { st: s, at: p }
 }
 
 // PRINT with no element is a new line.
@@ -254,10 +254,10 @@ pub fn compile_print(
     left: usize,
     k: u32,
     r: Range,
-) -> Went
+) -> Behind
     ensures { λ x. ⌜ Body (now (sheet .entry)) (now (text .entry)) base left Shape.Print k r at (mem (now (list .entry)) (now (notes .entry)) (now (book .entry)) st) (mem (now (list .exit)) (now (notes .exit)) (now (book .exit)) (x .st)) (x .at) ⌝ }
 {
-    let c = expressions::expr::count_at(sheet, at);
+    let c = expressions::expr::read_payload(sheet, at);
     let x = print_each(
         sheet,
         text,
@@ -268,11 +268,11 @@ pub fn compile_print(
         base,
         c.at,
         left,
-        c.count,
+        c.value,
         r,
     );
     let xs = x.st;
-    let es = empty_line(list, xs, c.count, r);
+    let es = empty_line(list, xs, c.value, r);
     let s = recorder::codegen::emit_flush(list, es, r);
-    Went { st: s, at: x.at }
+    Behind { st: s, at: x.at }
 }

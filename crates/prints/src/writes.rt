@@ -1,5 +1,5 @@
 // compile_write of compiler.rs.
-use expressions::expr::Went;
+use expressions::expr::Behind;
 use recorder::codegen::St;
 use recorder::word::Range;
 use rules::types::Type;
@@ -13,7 +13,7 @@ ghost use Rattle.recorder.specs.Mem.{mem, memR};
 ghost use Rattle.sheet.specs.Tree.{Expr, exprRange};
 ghost use Rattle.rules.specs.Stmt.{flagOf, writeValue};
 ghost use Rattle.expressions.specs.Body.{Body};
-ghost use Rattle.prints.specs.Parts.{Written, element, keptCall, droppedCall};
+ghost use Rattle.prints.specs.Parts.{WritesDone, element, keptCall, droppedCall};
 
 // Whether a value is written: the last one, and one with a comma behind it. `more` counts it and those behind it.
 fn is_kept(more: u32, comma: u32) -> bool
@@ -85,8 +85,8 @@ fn write_each(
     left: usize,
     n: u32,
     file: u32,
-) -> Went
-    ensures { λ x. ⌜ Written (now (sheet .entry)) (now (text .entry)) base left file n at (mem (now (list .entry)) (now (notes .entry)) (now (book .entry)) st) (mem (now (list .exit)) (now (notes .exit)) (now (book .exit)) (x .st)) (x .at) ⌝ }
+) -> Behind
+    ensures { λ x. ⌜ WritesDone (now (sheet .entry)) (now (text .entry)) base left file n at (mem (now (list .entry)) (now (notes .entry)) (now (book .entry)) st) (mem (now (list .exit)) (now (notes .exit)) (now (book .exit)) (x .st)) (x .at) ⌝ }
 {
     let mut s = st;
     let mut p = at;
@@ -95,13 +95,13 @@ fn write_each(
         let x = expressions::expr::compile_expr(sheet, text, list, notes, book, s, base, p, left);
         let xs = x.st;
         let xt = x.ty;
-        let c = expressions::expr::count_at(sheet, x.at);
-        let r = expressions::expr::expr_range(sheet, p);
-        s = write_value(list, notes, xs, file, more, c.count, r, xt);
+        let c = expressions::expr::read_payload(sheet, x.at);
+        let r = expressions::expr::node_range(sheet, p);
+        s = write_value(list, notes, xs, file, more, c.value, r, xt);
         p = c.at;
         more -= 1;
     }
-    Went { st: s, at: p }
+    Behind { st: s, at: p }
 }
 
 pub fn compile_write(
@@ -116,12 +116,12 @@ pub fn compile_write(
     left: usize,
     k: u32,
     r: Range,
-) -> Went
+) -> Behind
     ensures { λ x. ⌜ Body (now (sheet .entry)) (now (text .entry)) base left Shape.Write k r at (mem (now (list .entry)) (now (notes .entry)) (now (book .entry)) st) (mem (now (list .exit)) (now (notes .exit)) (now (book .exit)) (x .st)) (x .at) ⌝ }
 {
-    if recorder::word::kind_at(sheet, at) == 2 {
+    if sheet::leaf::is_absent(sheet, at) {
         let q = recorder::word::behind(sheet, at);
-        let c = expressions::expr::count_at(sheet, q);
+        let c = expressions::expr::read_payload(sheet, q);
         let x = write_each(
             sheet,
             text,
@@ -132,12 +132,12 @@ pub fn compile_write(
             base,
             c.at,
             left,
-            c.count,
+            c.value,
             0,
         );
         let xs = x.st;
         let s = recorder::codegen::emit_flush(list, xs, r);
-        return Went { st: s, at: x.at };
+        return Behind { st: s, at: x.at };
     }
     let f = expressions::expr::compile_typed(
         sheet,
@@ -152,7 +152,7 @@ pub fn compile_write(
         Type::Real,
     );
     let fs = f.st;
-    let c = expressions::expr::count_at(sheet, f.at);
+    let c = expressions::expr::read_payload(sheet, f.at);
     write_each(
         sheet,
         text,
@@ -163,7 +163,7 @@ pub fn compile_write(
         base,
         c.at,
         left,
-        c.count,
+        c.value,
         1,
     )
 }

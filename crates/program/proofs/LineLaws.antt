@@ -10,12 +10,12 @@ use native.Mathlib.Omega.{arith}
 use Rattle.recorder.specs.declared.word.Range.{Range}
 use Rattle.recorder.specs.declared.label.Label.{Label}
 use Rattle.recorder.specs.declared.codegen.St.{St}
-use Rattle.recorder.specs.Word.{payloadAt, next, choose}
+use Rattle.recorder.specs.Word.{payloadAt, next}
 use Rattle.recorder.specs.Marks.{Mark}
 use Rattle.closing.specs.MarkWords.{markList, markCount}
 use Rattle.recorder.specs.Mem.{Mem, mem, memR, onLine}
 use Rattle.sheet.specs.Form.{isAbsent}
-use Rattle.sheet.specs.Tree.{Opt, absent, given, Target, Labelled, ProgramLine, optAt, targetAt, labelledAt, behindLabel, lineStmts, lineAt, behindLine, itemsAt, programAt}
+use Rattle.sheet.specs.Tree.{ProgramLine, optAt, targetAt, behindLabel, lineStmts, lineAt, behindLine, itemsAt, programAt}
 use Rattle.rules.specs.Name.{textPlace}
 use Rattle.rules.specs.Stmt.{compileStmts}
 use Rattle.rules.specs.Program.{Lines as RulesLines, lastLabel, marked, labelNote, compileLine, compileLines, firstLine}
@@ -24,78 +24,62 @@ use Rattle.jumps.specs.declared.jump.OptTarget.the-variants.{Given as givenTarg
 use Rattle.jumps.specs.Parts.{targetOf}
 use Rattle.program.specs.declared.line.Lines.{Lines}
 use Rattle.statements.specs.Stmt.{CompiledStmts}
-use Rattle.program.specs.Line.{labelledOf, lineWords, lineCount, stillRising, linesOf, CompiledLine, Programmed}
+use Rattle.program.specs.Line.{lineWork, lineCount, stillRising, linesOf, CompiledLine, Programmed}
 use Rattle.program.proofs.MarkLaws.{Kept, kept-none, kept-line}
 
 -- the label's note
-pub note-none : (t : List ℕ) (base last : ℕ) (o : OptTarget) (m : Mem) → o ≡ absentTarget → m ≡ labelNote (memR t) t base last (labelledOf o) m
+pub note-none : (t : List ℕ) (base last : ℕ) (o : OptTarget) (m : Mem) → o ≡ absentTarget → m ≡ labelNote (memR t) t base last (targetOf o) m
 note-none t base last o m e = rw e
 
 pub note-low : (t : List ℕ) (base last : ℕ) (o : OptTarget) (r : Range) (l : Label) (m m1 : Mem) → o ≡ givenTarget r l → l .0 < last → m1 ≡ memR t .note m 1 r 1
-    → m1 ≡ labelNote (memR t) t base last (labelledOf o) m
+    → m1 ≡ labelNote (memR t) t base last (targetOf o) m
 note-low t base last o r l m m1 e h p = rw (e, lt-ltb (l .0) last h) p
 
-pub note-rising : (t : List ℕ) (base last : ℕ) (o : OptTarget) (r : Range) (l : Label) (m : Mem) → o ≡ givenTarget r l → last ≤ l .0 → m ≡ labelNote (memR t) t base last (labelledOf o) m
+pub note-rising : (t : List ℕ) (base last : ℕ) (o : OptTarget) (r : Range) (l : Label) (m : Mem) → o ≡ givenTarget r l → last ≤ l .0 → m ≡ labelNote (memR t) t base last (targetOf o) m
 note-rising t base last o r l m e h = rw (e, le-ltb (l .0) last h)
 
 -- the work
-pub mark-none : (o : OptTarget) (a f : ℕ) (w : List ℕ) (n : ℕ) → o ≡ absentTarget → (w ≡ lineWords (labelledOf o) a f w n) × (n ≡ lineCount (labelledOf o) w n)
+pub mark-none : (o : OptTarget) (a f : ℕ) (w : List ℕ) (n : ℕ) → o ≡ absentTarget → (w ≡ lineWork (targetOf o) a f w n) × (n ≡ lineCount (targetOf o) w n)
 mark-none o a f w n e = rw e (refl, refl)
 
 pub mark-given : (o : OptTarget) (r : Range) (l : Label) (x a f : ℕ) (w w′ : List ℕ) (n k : ℕ) → o ≡ givenTarget r l → x ≡ a → (w′ ≡ markList w n (l .0) x f) × (k ≡ markCount w n)
-    → (w′ ≡ lineWords (labelledOf o) a f w n) × (k ≡ lineCount (labelledOf o) w n)
+    → (w′ ≡ lineWork (targetOf o) a f w n) × (k ≡ lineCount (targetOf o) w n)
 mark-given o r l x a f w w′ n k e h p = rw (e, ← h) p
 
-pub last-none : (o : OptTarget) (last : ℕ) → o ≡ absentTarget → last ≡ lastLabel last (labelledOf o)
+pub last-none : (o : OptTarget) (last : ℕ) → o ≡ absentTarget → last ≡ lastLabel last (targetOf o)
 last-none o last e = rw e
 
-pub last-given : (o : OptTarget) (r : Range) (l : Label) (last : ℕ) → o ≡ givenTarget r l → l .0 + 1 ≡ lastLabel last (labelledOf o)
+pub last-given : (o : OptTarget) (r : Range) (l : Label) (last : ℕ) → o ≡ givenTarget r l → l .0 + 1 ≡ lastLabel last (targetOf o)
 last-given o r l last e = rw e
 
-pub rising-none : (o : OptTarget) (last : ℕ) (rising : Bool) → o ≡ absentTarget → rising ≡ stillRising last (labelledOf o) rising
+pub rising-none : (o : OptTarget) (last : ℕ) (rising : Bool) → o ≡ absentTarget → rising ≡ stillRising last (targetOf o) rising
 rising-none o last rising e = rw e
 
-pub rising-low : (o : OptTarget) (r : Range) (l : Label) (last : ℕ) (rising : Bool) → o ≡ givenTarget r l → l .0 < last → false ≡ stillRising last (labelledOf o) rising
+pub rising-low : (o : OptTarget) (r : Range) (l : Label) (last : ℕ) (rising : Bool) → o ≡ givenTarget r l → l .0 < last → false ≡ stillRising last (targetOf o) rising
 rising-low o r l last rising e h = rw (e, lt-ltb (l .0) last h)
 
-pub rising-still : (o : OptTarget) (r : Range) (l : Label) (last : ℕ) (rising : Bool) → o ≡ givenTarget r l → last ≤ l .0 → rising ≡ stillRising last (labelledOf o) rising
+pub rising-still : (o : OptTarget) (r : Range) (l : Label) (last : ℕ) (rising : Bool) → o ≡ givenTarget r l → last ≤ l .0 → rising ≡ stillRising last (targetOf o) rising
 rising-still o r l last rising e h = rw (e, le-ltb (l .0) last h)
-
--- a line's label is read as a jump's target is
-abbrev fromTarget : Opt Target → Opt Labelled
-fromTarget absent = absent
-fromTarget (given g) = given (record { range = g .range; label = g .label })
-
-from-target : (o : OptTarget) → labelledOf o ≡ fromTarget (targetOf o)
-from-target (givenTarget r l) = refl
-from-target absentTarget = refl
-
-from-choice : (s : List ℕ) (b : Bool) (p : ℕ) → fromTarget (choose b (λ q. absent) (λ q. given (targetAt s q)) p) ≡ choose b (λ q. absent) (λ q. given (labelledAt s q)) p
-from-choice s true p = refl
-from-choice s false p = refl
-
-label-is : (s : List ℕ) (o : OptTarget) (p : ℕ) → targetOf o ≡ optAt s (targetAt s) p → labelledOf o ≡ optAt s (labelledAt s) p
-label-is s o p e = from-target o ∙ ap fromTarget e ∙ from-choice s (isAbsent s p) p
 
 -- a line
 pub line-of : (s t : List ℕ) (line : ℕ) (c : Lines) (o : OptTarget) (len p q q1 k last base : ℕ) (rising : Bool) (l n n1 b l2 n2 b2 w w′ : List ℕ) (s1 s2 s3 : St)
     → len ≡ payloadAt s (c .at) → p ≡ next s (c .at) → targetOf o ≡ optAt s (targetAt s) p → q ≡ behindLabel s p → s1 ≡ onLine (c .st) line
-    → mem l n1 b s2 ≡ labelNote (memR t) t (c .base) (c .last) (labelledOf o) (mem l n b s1) → CompiledStmts s t (c .base) 64 q (mem l n1 b s2) (mem l2 n2 b2 s3) q1
-    → (w′ ≡ lineWords (labelledOf o) (c .st .records) (s3 .first) w (c .marks)) × (k ≡ lineCount (labelledOf o) w (c .marks)) → last ≡ lastLabel (c .last) (labelledOf o)
-    → base ≡ textPlace (c .base) len → rising ≡ stillRising (c .last) (labelledOf o) (c .rising)
+    → mem l n1 b s2 ≡ labelNote (memR t) t (c .base) (c .last) (targetOf o) (mem l n b s1) → CompiledStmts s t (c .base) 64 q (mem l n1 b s2) (mem l2 n2 b2 s3) q1
+    → (w′ ≡ lineWork (targetOf o) (c .st .records) (s3 .first) w (c .marks)) × (k ≡ lineCount (targetOf o) w (c .marks)) → last ≡ lastLabel (c .last) (targetOf o)
+    → base ≡ textPlace (c .base) len → rising ≡ stillRising (c .last) (targetOf o) (c .rising)
     → CompiledLine s t line c (record { st = s3; at = q1; marks = k; last = last; base = base; rising = rising }) (mem l n b (c .st)) (mem l2 n2 b2 s3) w w′
 unfolding compileLine
 line-of s t line c o len p q q1 k last base rising l n n1 b l2 n2 b2 w w′ s1 s2 s3 hl hp ho hq hs hn x hw hla hb hr =
-    let g : labelledOf o ≡ optAt s (labelledAt s) (next s (c .at)) = rw (← hp) (label-is s o p ho) in
+    let g : targetOf o ≡ optAt s (targetAt s) (next s (c .at)) = rw (← hp) ho in
     let e : mem l2 n2 b2 s3 ≡ compileStmts (memR t) t (c .base) (lineStmts s (behindLabel s (next s (c .at))))
-    (labelNote (memR t) t (c .base) (c .last) (optAt s (labelledAt s) (next s (c .at))) (mem l n b (onLine (c .st) line))) =
-    rw (← hp, ← hq, x .result, hn, hs, label-is s o p ho) in
+    (labelNote (memR t) t (c .base) (c .last) (optAt s (targetAt s) (next s (c .at))) (mem l n b (onLine (c .st) line))) =
+    rw (← hp, ← hq, x .result, hn, hs, ho) in
     record {
       place = x .place ∙ rw (hq, hp);
       lines = λ ms. rw (hla, hb, hl, g) (ap (λ (z : Mem). record {
         state = z;
-        marks = marked (optAt s (labelledAt s) (next s (c .at))) (c .st .records) (z .st .first) ms;
-        last = lastLabel (c .last) (optAt s (labelledAt s) (next s (c .at)));
+        marks = marked (optAt s (targetAt s) (next s (c .at))) (c .st .records) (z .st .first) ms;
+        last = lastLabel (c .last) (optAt s (targetAt s) (next s (c .at)));
         base = textPlace (c .base) (payloadAt s (c .at));
         line = line + 1;
       }) e);
@@ -105,17 +89,17 @@ line-of s t line c o len p q q1 k last base rising l n n1 b l2 n2 b2 w w′ s1 s
     }
 
 -- the loop: the labelled lines so far, and what is left to compile
-pub record Going (s t : List ℕ) (count line : ℕ) (c : Lines) (m₀ m : Mem) (w : List ℕ) : Type 0 where
+pub record Going (s t : List ℕ) (count line : ℕ) (c : Lines) (m₀ m : Mem) (w₀ w : List ℕ) : Type 0 where
   pub marks : List Mark
-  pub kept : Kept w (c .marks) (c .rising) (c .last) (count - line) marks
+  pub kept : w₀ ≡ replicate (length w₀) 0 → 3 * payloadAt s 0 ≤ length w₀ → Kept w (c .marks) (c .rising) (c .last) (count - line) marks
   pub lines : compileLines (memR t) t (itemsAt s (lineAt s) (behindLine s) (count - line) (c .at)) (linesOf c line m marks) ≡ compileLines (memR t) t (programAt s) (firstLine (memR t) t m₀)
 
-pub going-start : (s t : List ℕ) (count at : ℕ) (l n b w : List ℕ) (st : St) → count ≡ payloadAt s 0 → at ≡ next s 0 → w ≡ replicate (length w) 0 → 3 * payloadAt s 0 ≤ length w
-    → Going s t count 0 (record { st = st; at = at; marks = 0; last = 0; base = 0; rising = true }) (mem l n b st) (mem l n b st) w
+pub going-start : (s t : List ℕ) (count at : ℕ) (l n b w : List ℕ) (st : St) → count ≡ payloadAt s 0 → at ≡ next s 0
+    → Going s t count 0 (record { st = st; at = at; marks = 0; last = 0; base = 0; rising = true }) (mem l n b st) (mem l n b st) w w
 unfolding programAt
-going-start s t count at l n b w st hc ha z h = record {
+going-start s t count at l n b w st hc ha = record {
   marks = [];
-  kept = kept-none w (count - 0) z (omega arith);
+  kept = λ z h. kept-none w (count - 0) z (omega arith);
   lines = let e : count - 0 ≡ payloadAt s 0 = omega arith in rw (e, ha);
 }
 
@@ -132,16 +116,15 @@ last-of : (t : List ℕ) (l : ProgramLine) (c : RulesLines Mem) → compileLine 
 unfolding compileLine
 last-of t l c = refl
 
-pub going-on : (s t : List ℕ) (count line : ℕ) (c d : Lines) (m₀ m m′ : Mem) (w w′ : List ℕ) → line < count → CompiledLine s t line c d m m′ w w′ → length w′ ≡ length w
-    → Going s t count line c m₀ m w → Going s t count (line + 1) d m₀ m′ w′
-going-on s t count line c d m₀ m m′ w w′ h x same g =
+pub going-on : (s t : List ℕ) (count line : ℕ) (c d : Lines) (m₀ m m′ : Mem) (w₀ w w′ : List ℕ) → line < count → CompiledLine s t line c d m m′ w w′ → length w′ ≡ length w
+    → Going s t count line c m₀ m w₀ w → Going s t count (line + 1) d m₀ m′ w₀ w′
+going-on s t count line c d m₀ m m′ w₀ w w′ h x same g =
     let left : count - (line + 1) ≡ count - line - 1 = omega arith in
-    let k = kept-line (isAbsent s (next s (c .at))) (labelledAt s) (next s (c .at)) w (c .marks) (c .rising) (c .last) (count - line) (g .marks) (m .st .records) (m′ .st .first) w′
-    (omega arith) (omega arith) (g .kept) same (x .words) in
     let y : d .last ≡ lastLabel (c .last) (lineAt s (c .at) .label) = ap (λ (z : RulesLines Mem). z .last) (x .lines (g .marks)) ∙ last-of t (lineAt s (c .at)) (linesOf c line m (g .marks)) in
     record {
       marks = marked (lineAt s (c .at) .label) (m .st .records) (m′ .st .first) (g .marks);
-      kept = rw (left, x .count, x .rising, y) k;
+      kept = λ z i. rw (left, x .count, x .rising, y) (kept-line (isAbsent s (next s (c .at))) (targetAt s) (next s (c .at)) w (c .marks) (c .rising) (c .last) (count - line) (g .marks)
+          (m .st .records) (m′ .st .first) w′ (omega arith) (omega arith) (g .kept z i) same (x .words));
       lines = rw (left, x .place, x .lines (g .marks)) (inv (lines-more t (lineAt s (c .at)) (itemsAt s (lineAt s) (behindLine s) (count - line - 1) (behindLine s (c .at))) (linesOf c line m (g .marks)))
           ∙ ap (λ (z : List ProgramLine). compileLines (memR t) t z (linesOf c line m (g .marks))) (inv (items-step s (count - line) (c .at) (omega arith))) ∙ g .lines);
     }
@@ -150,10 +133,10 @@ lines-none : (s t : List ℕ) (n at : ℕ) (c : RulesLines Mem) → n ≡ 0 → 
 unfolding compileLines itemsAt
 lines-none s t n at c e = rw e
 
-pub going-done : (s t : List ℕ) (count line : ℕ) (c : Lines) (m₀ m : Mem) (w : List ℕ) → count ≤ line → Going s t count line c m₀ m w → Programmed s t m₀ m w (c .marks) (c .rising)
-going-done s t count line c m₀ m w h g =
+pub going-done : (s t : List ℕ) (count line : ℕ) (c : Lines) (m₀ m : Mem) (w₀ w : List ℕ) → count ≤ line → Going s t count line c m₀ m w₀ w → Programmed s t m₀ m w₀ w (c .marks) (c .rising)
+going-done s t count line c m₀ m w₀ w h g =
     let e : linesOf c line m (g .marks) ≡ compileLines (memR t) t (programAt s) (firstLine (memR t) t m₀) = lines-none s t (count - line) (c .at) (linesOf c line m (g .marks)) (omega arith) ∙ g .lines in
     record {
       state = ap (λ (z : RulesLines Mem). z .state) e;
-      marks = rw (← ap (λ (z : RulesLines Mem). z .marks) e) (g .kept .marks);
+      marks = λ z i. rw (← ap (λ (z : RulesLines Mem). z .marks) e) (g .kept z i .marks);
     }

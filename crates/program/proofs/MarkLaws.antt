@@ -13,11 +13,11 @@ use Rattle.recorder.specs.Layout.{wordsOf, fill}
 use Rattle.recorder.specs.Marks.{Mark, mark}
 use Rattle.recorder.proofs.Bools.{both-left, both-right}
 use Rattle.closing.specs.MarkWords.{markWords, markList, markCount, rise}
-use Rattle.closing.specs.Marked.{narrow, MarksIn}
+use Rattle.closing.specs.MarksIn.{narrow, MarksIn}
 use Rattle.closing.proofs.MarkSearch.{mark-put}
-use Rattle.sheet.specs.Tree.{absent, given, Labelled}
+use Rattle.sheet.specs.Tree.{absent, given, Target}
 use Rattle.rules.specs.Program.{lastLabel, marked}
-use Rattle.program.specs.Line.{lineWords, lineCount, stillRising}
+use Rattle.program.specs.Line.{lineWork, lineCount, stillRising}
 
 -- the last label plus 1, or x where there is none
 unfoldable pub lastFrom : ℕ → List Mark → ℕ
@@ -61,7 +61,7 @@ sorted-more ms last l a f rising s e r = go (ltb l last) refl r
         below k (yes d) = absurd (let y = lt-ltb l last d in let z : _≡_ {A = ℕ} 0 1 = cc in omega arith)
         below k (no d) = omega arith
 
-kept-label : (w : List ℕ) (n : ℕ) (rising : Bool) (last left : ℕ) (ms : List Mark) (l : Labelled) (a f : ℕ) → l .label < 65536 → 0 < left → Kept w n rising last left ms
+kept-label : (w : List ℕ) (n : ℕ) (rising : Bool) (last left : ℕ) (ms : List Mark) (l : Target) (a f : ℕ) → l .label < 65536 → 0 < left → Kept w n rising last left ms
     → (w′ : List ℕ) → length w′ ≡ length w → w′ ≡ markList w n (l .label) a f
     → Kept w′ (markCount w n) (pick (ltb (l .label) last) false rising) (l .label + 1) (left - 1) (ms ++ (mark (l .label) a f ∷ []))
 kept-label w n rising last left ms l a f b h k w′ same e =
@@ -77,8 +77,8 @@ kept-label w n rising last left ms l a f b h k w′ same e =
     }
 
 -- one line more, whose label may be absent
-pub kept-line : (b : Bool) (g : ℕ → Labelled) (p : ℕ) (w : List ℕ) (n : ℕ) (rising : Bool) (last left : ℕ) (ms : List Mark) (a f : ℕ) (w′ : List ℕ) → g p .label < 65536 → 0 < left
-    → Kept w n rising last left ms → length w′ ≡ length w → w′ ≡ lineWords (choose b (λ q. absent) (λ q. given (g q)) p) a f w n
+pub kept-line : (b : Bool) (g : ℕ → Target) (p : ℕ) (w : List ℕ) (n : ℕ) (rising : Bool) (last left : ℕ) (ms : List Mark) (a f : ℕ) (w′ : List ℕ) → g p .label < 65536 → 0 < left
+    → Kept w n rising last left ms → length w′ ≡ length w → w′ ≡ lineWork (choose b (λ q. absent) (λ q. given (g q)) p) a f w n
     → Kept w′ (lineCount (choose b (λ q. absent) (λ q. given (g q)) p) w n) (stillRising last (choose b (λ q. absent) (λ q. given (g q)) p) rising)
     (lastLabel last (choose b (λ q. absent) (λ q. given (g q)) p)) (left - 1) (marked (choose b (λ q. absent) (λ q. given (g q)) p) a f ms)
 kept-line true g p w n rising last left ms a f w′ u h k same e = rw e (record { marks = k .marks; last = k .last; room = omega (arith, k .room) })

@@ -3,12 +3,11 @@ use jumps::jump::OptTarget;
 use recorder::codegen::St;
 ghost use mathlib.Core.Path.{_≡_};
 ghost use mathlib.Core.List.{List};
-ghost use Prim.Native.Nat.{ℕ, _*_, _≤_};
-ghost use lib.ListN.{length, replicate};
-ghost use Rattle.recorder.specs.Word.{payloadAt};
+ghost use Prim.Native.Nat.{ℕ};
 ghost use Rattle.recorder.specs.Mem.{mem, memR};
 ghost use Rattle.rules.specs.Program.{lastLabel, labelNote};
-ghost use Rattle.program.specs.Line.{labelledOf, lineWords, lineCount, stillRising, CompiledLine, Programmed};
+ghost use Rattle.jumps.specs.Parts.{targetOf};
+ghost use Rattle.program.specs.Line.{lineWork, lineCount, stillRising, CompiledLine, Programmed};
 
 // How far the lines are compiled: where the next one is, how many labelled ones there are so far, the last label plus 1 (0 before
 // the first), where the next line begins in the text, and whether labels rose.
@@ -30,7 +29,7 @@ pub struct Program {
 
 // "1 labels not rising"
 fn label_note(notes: &mut [u32], st: St, last: u32, o: OptTarget) -> St
-    ensures { λ x. ⌜ ((t l b : List ℕ) (base : ℕ) → mem l (now (notes .exit)) b x ≡ labelNote (memR t) t base last (labelledOf o) (mem l (now (notes .entry)) b st)) ⌝ }
+    ensures { λ x. ⌜ ((t l b : List ℕ) (base : ℕ) → mem l (now (notes .exit)) b x ≡ labelNote (memR t) t base last (targetOf o) (mem l (now (notes .entry)) b st)) ⌝ }
 {
     let OptTarget::Given(r, l) = o else {
         return st;
@@ -43,7 +42,7 @@ fn label_note(notes: &mut [u32], st: St, last: u32, o: OptTarget) -> St
 
 // A labelled line goes into work: the address before its records, and the first datum that it made. Returns how many there are.
 fn mark_line(work: &mut [u32], n: usize, o: OptTarget, before: St, after: St) -> usize
-    ensures { λ x. ⌜ (now (work .exit) ≡ lineWords (labelledOf o) (before .records) (after .first) (now (work .entry)) n) × (x ≡ lineCount (labelledOf o) (now (work .entry)) n) ⌝ }
+    ensures { λ x. ⌜ (now (work .exit) ≡ lineWork (targetOf o) (before .records) (after .first) (now (work .entry)) n) × (x ≡ lineCount (targetOf o) (now (work .entry)) n) ⌝ }
 {
     let OptTarget::Given(_, l) = o else {
         return n;
@@ -53,7 +52,7 @@ fn mark_line(work: &mut [u32], n: usize, o: OptTarget, before: St, after: St) ->
 }
 
 fn last_label(last: u32, o: OptTarget) -> u32
-    ensures { λ x. ⌜ x ≡ lastLabel last (labelledOf o) ⌝ }
+    ensures { λ x. ⌜ x ≡ lastLabel last (targetOf o) ⌝ }
 {
     let OptTarget::Given(_, l) = o else {
         return last;
@@ -62,7 +61,7 @@ fn last_label(last: u32, o: OptTarget) -> u32
 }
 
 fn still_rising(rising: bool, last: u32, o: OptTarget) -> bool
-    ensures { λ x. ⌜ x ≡ stillRising last (labelledOf o) rising ⌝ }
+    ensures { λ x. ⌜ x ≡ stillRising last (targetOf o) rising ⌝ }
 {
     let OptTarget::Given(_, l) = o else {
         return rising;
@@ -106,7 +105,7 @@ fn compile_line(
     }
 }
 
-// All lines, in order. The work is zeros before, with three words for each line.
+// All lines, in order. The work should be zeros before, with three words for each line.
 pub fn compile_prog(
     sheet: &[u32],
     text: &[u16],
@@ -116,7 +115,7 @@ pub fn compile_prog(
     work: &mut [u32],
     st: St,
 ) -> Program
-    ensures { λ x. ⌜ (now (work .entry) ≡ replicate (length (now (work .entry))) 0 → 3 * payloadAt (now (sheet .entry)) 0 ≤ length (now (work .entry)) → Programmed (now (sheet .entry)) (now (text .entry)) (mem (now (list .entry)) (now (notes .entry)) (now (book .entry)) st) (mem (now (list .exit)) (now (notes .exit)) (now (book .exit)) (x .st)) (now (work .exit)) (x .marks) (x .rising)) ⌝ }
+    ensures { λ x. ⌜ Programmed (now (sheet .entry)) (now (text .entry)) (mem (now (list .entry)) (now (notes .entry)) (now (book .entry)) st) (mem (now (list .exit)) (now (notes .exit)) (now (book .exit)) (x .st)) (now (work .entry)) (now (work .exit)) (x .marks) (x .rising) ⌝ }
 {
     let count = recorder::word::payload_at(sheet, 0);
     let at = recorder::word::behind(sheet, 0);

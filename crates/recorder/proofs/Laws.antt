@@ -12,12 +12,13 @@ use borrow.Rule.Slice.PartMut.{midOf, putMid}
 use native.Mathlib.Numerals.{sub-one}
 use native.Mathlib.Omega.{arith}
 use Rattle.recorder.specs.declared.codegen.St.{St}
-use Rattle.recorder.specs.declared.codegen.Way.{Way}
+use Rattle.recorder.specs.declared.codegen.Descent.{Descent}
 use Rattle.recorder.specs.declared.word.Range.{Range}
 use Rattle.recorder.specs.Word.{pick, both, kind, payloadAt, wordOf, rangeWord, next}
 use Rattle.recorder.specs.Name.{upper, sameUnits, sameName}
 use Rattle.recorder.specs.Ideal.{firstOf}
-use Rattle.recorder.specs.Mem.{listRoom, putList, putRec, putSt, withRecords, four, more, low, known, sigilCode, withLink, isName, namedAt, lookup, mix, turnsOf, onward, wayFrom, wayTo, seek, mayLink, linkedAt, linked, rootOf, newList, newSt, symbolNumber, symbolList, symbolSt, entryList, entrySt, noteList, noteSt, withNames, withNotes, withEntries, part, atRec, onRec}
+use Rattle.recorder.specs.Layout.{mostRecords}
+use Rattle.recorder.specs.Mem.{putList, putRec, putSt, withRecords, four, more, low, known, sigilCode, withLink, isNameEntry, namedAt, lookup, hashStep, hashOf, childOf, descentFrom, descentTo, entryOf, mayLink, linkedAt, linked, rootOf, newList, newSt, symbolNumber, symbolList, symbolSt, entryList, entrySt, noteList, noteSt, withNames, withNotes, withEntries, part, atRec, onRec}
 use Rattle.recorder.proofs.Bools.{both-false}
 
 -- the units' loop: one turn, a difference, the end
@@ -60,57 +61,57 @@ find-end t b x n g k (suc left) z h e = absurd (omega arith)
 pub found-from : (t b : List ℕ) (x n g from end left m k : ℕ) → end ≡ m → left ≡ end - from → k ≡ lookup t b x n g from left → k ≡ lookup t b x n g from (m - from)
 found-from t b x n g from end left m k e f i = i ∙ rw (f, e)
 
--- the turns of a name
-pub turns-step : (t : List ℕ) (p h n p′ h′ x u z : ℕ) → 0 < n → turnsOf t p h n ≡ z → x ≡ getD t p 0 → u ≡ upper x → h′ ≡ mix h u → p′ ≡ next t p
-    → turnsOf t p′ h′ (n - 1) ≡ z
-unfolding turnsOf
-turns-step t p h zero p′ h′ x u z l e a b c d = absurd (omega arith)
-turns-step t p h (suc n) p′ h′ x u z l e a b c d = rw (sub-one, c, b, a, d) e
+-- the hash of a name
+pub hash-next : (t : List ℕ) (p h n p′ h′ x u z : ℕ) → 0 < n → hashOf t p h n ≡ z → x ≡ getD t p 0 → u ≡ upper x → h′ ≡ hashStep h u → p′ ≡ next t p
+    → hashOf t p′ h′ (n - 1) ≡ z
+unfolding hashOf
+hash-next t p h zero p′ h′ x u z l e a b c d = absurd (omega arith)
+hash-next t p h (suc n) p′ h′ x u z l e a b c d = rw (sub-one, c, b, a, d) e
 
-pub turns-end : (t : List ℕ) (p h n z : ℕ) → n ≤ 0 → turnsOf t p h n ≡ z → h ≡ z
-unfolding turnsOf
-turns-end t p h zero z l e = e
-turns-end t p h (suc n) z l e = absurd (omega arith)
+pub hash-end : (t : List ℕ) (p h n z : ℕ) → n ≤ 0 → hashOf t p h n ≡ z → h ≡ z
+unfolding hashOf
+hash-end t p h zero z l e = e
+hash-end t p h (suc n) z l e = absurd (omega arith)
 
--- the way to a name: one turn; it ends at the name, where it leads to no later entry, where it leads past the last, or with `left`
-abbrev pub way : ℕ → ℕ → Way
-way at turns = record { at = at; turns = turns }
+-- the descent to a name: one turn; it ends at the name, where its child is no later entry, where it is past the last, or with `left`
+abbrev pub descent : ℕ → ℕ → Descent
+descent at bits = record { at = at; bits = bits }
 
-pub way-step : (t b : List ℕ) (end x n g at turns left k turns′ : ℕ) (f : Bool) (w : Way) → 0 < left → wayFrom t b end x n g (way at turns) left ≡ w
-    → f ≡ namedAt t b at x n g → f ≡ false → k ≡ onward b (way at turns) → at < k → k < end → turns′ ≡ turns * 2 % 4294967296
-    → wayFrom t b end x n g (way k turns′) (left - 1) ≡ w
-unfolding wayFrom
-way-step t b end x n g at turns zero k turns′ f w h e i j o p q r = absurd (omega arith)
-way-step t b end x n g at turns (suc left) k turns′ f w h e i j o p q r =
+pub descent-step : (t b : List ℕ) (end x n g at bits left k bits′ : ℕ) (f : Bool) (w : Descent) → 0 < left → descentFrom t b end x n g (descent at bits) left ≡ w
+    → f ≡ namedAt t b at x n g → f ≡ false → k ≡ childOf b (descent at bits) → at < k → k < end → bits′ ≡ bits * 2 % 4294967296
+    → descentFrom t b end x n g (descent k bits′) (left - 1) ≡ w
+unfolding descentFrom
+descent-step t b end x n g at bits zero k bits′ f w h e i j o p q r = absurd (omega arith)
+descent-step t b end x n g at bits (suc left) k bits′ f w h e i j o p q r =
     rw (sub-one, r) (rw (← i, j, ← o, lt-ltb at k p, lt-ltb k end q) at e)
 
-pub way-here : (t b : List ℕ) (end x n g at turns left : ℕ) (f : Bool) (w : Way) → 0 < left → wayFrom t b end x n g (way at turns) left ≡ w
-    → f ≡ namedAt t b at x n g → f ≡ true → way at turns ≡ w
-unfolding wayFrom
-way-here t b end x n g at turns zero f w h e i j = absurd (omega arith)
-way-here t b end x n g at turns (suc left) f w h e i j = rw (← i, j) at e
+pub descent-here : (t b : List ℕ) (end x n g at bits left : ℕ) (f : Bool) (w : Descent) → 0 < left → descentFrom t b end x n g (descent at bits) left ≡ w
+    → f ≡ namedAt t b at x n g → f ≡ true → descent at bits ≡ w
+unfolding descentFrom
+descent-here t b end x n g at bits zero f w h e i j = absurd (omega arith)
+descent-here t b end x n g at bits (suc left) f w h e i j = rw (← i, j) at e
 
-pub way-none : (t b : List ℕ) (end x n g at turns left k : ℕ) (f : Bool) (w : Way) → 0 < left → wayFrom t b end x n g (way at turns) left ≡ w
-    → f ≡ namedAt t b at x n g → f ≡ false → k ≡ onward b (way at turns) → k ≤ at → way at turns ≡ w
-unfolding wayFrom
-way-none t b end x n g at turns zero k f w h e i j o p = absurd (omega arith)
-way-none t b end x n g at turns (suc left) k f w h e i j o p = rw (← i, j, ← o, le-ltb at k p) at e
+pub descent-none : (t b : List ℕ) (end x n g at bits left k : ℕ) (f : Bool) (w : Descent) → 0 < left → descentFrom t b end x n g (descent at bits) left ≡ w
+    → f ≡ namedAt t b at x n g → f ≡ false → k ≡ childOf b (descent at bits) → k ≤ at → descent at bits ≡ w
+unfolding descentFrom
+descent-none t b end x n g at bits zero k f w h e i j o p = absurd (omega arith)
+descent-none t b end x n g at bits (suc left) k f w h e i j o p = rw (← i, j, ← o, le-ltb at k p) at e
 
-pub way-past : (t b : List ℕ) (end x n g at turns left k : ℕ) (f : Bool) (w : Way) → 0 < left → wayFrom t b end x n g (way at turns) left ≡ w
-    → f ≡ namedAt t b at x n g → f ≡ false → k ≡ onward b (way at turns) → at < k → end ≤ k → way at turns ≡ w
-unfolding wayFrom
-way-past t b end x n g at turns zero k f w h e i j o p q = absurd (omega arith)
-way-past t b end x n g at turns (suc left) k f w h e i j o p q = rw (← i, j, ← o, lt-ltb at k p, le-ltb k end q) at e
+pub descent-past : (t b : List ℕ) (end x n g at bits left k : ℕ) (f : Bool) (w : Descent) → 0 < left → descentFrom t b end x n g (descent at bits) left ≡ w
+    → f ≡ namedAt t b at x n g → f ≡ false → k ≡ childOf b (descent at bits) → at < k → end ≤ k → descent at bits ≡ w
+unfolding descentFrom
+descent-past t b end x n g at bits zero k f w h e i j o p q = absurd (omega arith)
+descent-past t b end x n g at bits (suc left) k f w h e i j o p q = rw (← i, j, ← o, lt-ltb at k p, le-ltb k end q) at e
 
-pub way-end : (t b : List ℕ) (end x n g at turns left : ℕ) (w : Way) → left ≤ 0 → wayFrom t b end x n g (way at turns) left ≡ w → way at turns ≡ w
-unfolding wayFrom
-way-end t b end x n g at turns zero w h e = e
-way-end t b end x n g at turns (suc left) w h e = absurd (omega arith)
+pub descent-end : (t b : List ℕ) (end x n g at bits left : ℕ) (w : Descent) → left ≤ 0 → descentFrom t b end x n g (descent at bits) left ≡ w → descent at bits ≡ w
+unfolding descentFrom
+descent-end t b end x n g at bits zero w h e = e
+descent-end t b end x n g at bits (suc left) w h e = absurd (omega arith)
 
-pub way-all : (t b : List ℕ) (st : St) (end x n g c at turns : ℕ) (w : Way) → end ≡ known b st → at ≡ st .root - 1 → c ≡ sigilCode g → turns ≡ turnsOf t x c n
-    → w ≡ wayFrom t b end x n g (way at turns) end → w ≡ wayTo t b st x n g
-unfolding wayTo
-way-all t b st end x n g c at turns w i j k l e = e ∙ rw (l, k, j, i)
+pub descent-all : (t b : List ℕ) (st : St) (end x n g c at bits : ℕ) (w : Descent) → end ≡ known b st → at ≡ st .root - 1 → c ≡ sigilCode g → bits ≡ hashOf t x c n
+    → w ≡ descentFrom t b end x n g (descent at bits) end → w ≡ descentTo t b st x n g
+unfolding descentTo
+descent-all t b st end x n g c at bits w i j k l e = e ∙ rw (l, k, j, i)
 
 both-room : (f g : Bool) (n room : ℕ) → (f ≡ true → n < room) → both f g ≡ true → n < room
 both-room true g n room h e = h refl
@@ -120,7 +121,7 @@ positive : (n : ℕ) → (n ≡ 0 → ⊥) → 0 < n
 positive zero h = absurd (h refl)
 positive (suc n) h = omega arith
 
--- the name is where its way ends, in a tree
+-- the name is where its descent ends, in a tree
 pub no-root : (t b : List ℕ) (root end at x n g : ℕ) → root ≡ 0 → false ≡ both (ltb 0 root) (both (ltb at end) (namedAt t b at x n g))
 no-root t b root end at x n g e = rw (le-ltb 0 root (omega arith))
 
@@ -168,41 +169,40 @@ pick-length : (f : Bool) (a b : List ℕ) → length a ≡ length b → length (
 pick-length true a b e = e
 pick-length false a b e = refl
 
-pub next-linked : (b b₁ : List ℕ) (st : St) (at turns : ℕ) (f : Bool) → 0 < st .root → f ≡ mayLink b st → f ≡ true → b₁ ≡ linkedAt b (st .entries) (way at turns)
-    → b₁ ≡ pick (both (ltb 0 (st .root)) (mayLink b st)) (linkedAt b (st .entries) (way at turns)) b
-next-linked b b₁ st at turns f h i j e = rw (lt-ltb 0 (st .root) h, ← i, j) e
+pub next-linked : (b b₁ : List ℕ) (st : St) (at bits : ℕ) (f : Bool) → 0 < st .root → f ≡ mayLink b st → f ≡ true → b₁ ≡ linkedAt b (st .entries) (descent at bits)
+    → b₁ ≡ linked b st (descent at bits)
+unfolding linked
+next-linked b b₁ st at bits f h i j e = rw (lt-ltb 0 (st .root) h, ← i, j) e
 
-pub next-full : (b : List ℕ) (st : St) (at turns : ℕ) (f : Bool) → f ≡ mayLink b st → f ≡ false
-    → b ≡ pick (both (ltb 0 (st .root)) (mayLink b st)) (linkedAt b (st .entries) (way at turns)) b
-next-full b st at turns f i j = rw (← i, j, both-false (ltb 0 (st .root)))
+pub next-full : (b : List ℕ) (st : St) (at bits : ℕ) (f : Bool) → f ≡ mayLink b st → f ≡ false
+    → b ≡ linked b st (descent at bits)
+unfolding linked
+next-full b st at bits f i j = rw (← i, j, both-false (ltb 0 (st .root)))
 
-pub next-none : (b : List ℕ) (st : St) (at turns : ℕ) → st .root ≤ 0
-    → b ≡ pick (both (ltb 0 (st .root)) (mayLink b st)) (linkedAt b (st .entries) (way at turns)) b
-next-none b st at turns h = rw (le-ltb 0 (st .root) h)
+pub next-none : (b : List ℕ) (st : St) (at bits : ℕ) → st .root ≤ 0
+    → b ≡ linked b st (descent at bits)
+unfolding linked
+next-none b st at bits h = rw (le-ltb 0 (st .root) h)
 
-pub linked-length : (b : List ℕ) (k : ℕ) (w : Way) → length (linkedAt b k w) ≡ length b
+pub linked-length : (b : List ℕ) (k : ℕ) (w : Descent) → length (linkedAt b k w) ≡ length b
 unfolding linkedAt
-linked-length b k w = pick-length (ltb (w .at) (length b / 4)) (set b (4 * w .at + 3) (withLink (ltb 2147483647 (w .turns)) (getD b (4 * w .at + 3) 0) k)) b (length-set b (4 * w .at + 3) _)
+linked-length b k w = pick-length (ltb (w .at) (length b / 4)) (set b (4 * w .at + 3) (withLink (ltb 2147483647 (w .bits)) (getD b (4 * w .at + 3) 0) k)) b (length-set b (4 * w .at + 3) _)
 
-linked-same : (b b₁ : List ℕ) (st : St) (w : Way) → b₁ ≡ pick (both (ltb 0 (st .root)) (mayLink b st)) (linkedAt b (st .entries) w) b → length b₁ ≡ length b
+linked-same : (b b₁ : List ℕ) (st : St) (w : Descent) → b₁ ≡ linked b st w → length b₁ ≡ length b
+unfolding linked
 linked-same b b₁ st w e = ap length e ∙ pick-length (both (ltb 0 (st .root)) (mayLink b st)) (linkedAt b (st .entries) w) b (linked-length b (st .entries) w)
 
 entry-same : (b b₁ : List ℕ) (st : St) → length b₁ ≡ length b → entrySt b₁ st ≡ entrySt b st
 unfolding entrySt
 entry-same b b₁ st e = rw e
 
-pub sought : (t b : List ℕ) (st : St) (x n g k : ℕ) (w : Way) → w ≡ wayTo t b st x n g
+pub sought : (t b : List ℕ) (st : St) (x n g k : ℕ) (w : Descent) → w ≡ descentTo t b st x n g
     → k ≡ pick (both (ltb 0 (st .root)) (both (ltb (w .at) (known b st)) (namedAt t b (w .at) x n g))) (w .at) (lookup t b x n g (min (known b st) 32768) (known b st - 32768))
-    → (w ≡ wayTo t b st x n g) × (k ≡ seek t b st x n g)
-unfolding seek
+    → (w ≡ descentTo t b st x n g) × (k ≡ entryOf t b st x n g)
+unfolding entryOf
 sought t b st x n g k w a e = (a, e ∙ rw a)
 
-link-of : (t b : List ℕ) (st : St) (x n g : ℕ) (w : Way) → w ≡ wayTo t b st x n g
-    → pick (both (ltb 0 (st .root)) (mayLink b st)) (linkedAt b (st .entries) w) b ≡ linked t b st x n g
-unfolding linked
-link-of t b st x n g w a = rw a
-
-pub new-name : (b b₁ b₂ : List ℕ) (st s s′ : St) (x n g c v u h o : ℕ) (w : Way) → b₁ ≡ pick (both (ltb 0 (st .root)) (mayLink b st)) (linkedAt b (st .entries) w) b
+pub new-name : (b b₁ b₂ : List ℕ) (st s s′ : St) (x n g c v u h o : ℕ) (w : Descent) → b₁ ≡ linked b st w
     → v ≡ low (st .names) → u ≡ more (st .names) (length b / 4) → o ≡ rootOf b st → h ≡ wordOf 50 v → c ≡ sigilCode g
     → (b₂ ≡ entryList b₁ st h x n c) × (s ≡ entrySt b₁ st) → s′ ≡ withNames s u o
     → (b₂ ≡ newList b st w x n g) × (s′ ≡ newSt b st) × (v ≡ low (st .names))
@@ -210,16 +210,16 @@ new-name b b₁ b₂ st s s′ x n g c v u h o w f p q r y z d β =
     (d .0 ∙ rw (f, y, p, z), β ∙ rw (d .1, q, r, entry-same b b₁ st (linked-same b b₁ st w f)), p)
 
 -- a name that is in the book, and one that is not
-pub symbol-found : (t b : List ℕ) (st : St) (x n g k m v : ℕ) → k ≡ seek t b st x n g → m ≡ known b st → k < m → v ≡ payloadAt b (4 * k)
+pub symbol-found : (t b : List ℕ) (st : St) (x n g k m v : ℕ) → k ≡ entryOf t b st x n g → m ≡ known b st → k < m → v ≡ payloadAt b (4 * k)
     → (b ≡ symbolList t b st x n g) × (st ≡ symbolSt t b st x n g) × (v ≡ symbolNumber t b st x n g)
 unfolding symbolList symbolSt symbolNumber
 symbol-found t b st x n g k m v q i h j = let l = lt-ltb _ _ (rw (q, i) at h) in (rw l, rw l, rw l (rw q at j))
 
-pub symbol-new : (t b b′ : List ℕ) (st s : St) (x n g k m v : ℕ) (w : Way) → w ≡ wayTo t b st x n g → k ≡ seek t b st x n g → m ≡ known b st → m ≤ k
+pub symbol-new : (t b b′ : List ℕ) (st s : St) (x n g k m v : ℕ) (w : Descent) → w ≡ descentTo t b st x n g → k ≡ entryOf t b st x n g → m ≡ known b st → m ≤ k
     → (b′ ≡ newList b st w x n g) × (s ≡ newSt b st) × (v ≡ low (st .names))
     → (b′ ≡ symbolList t b st x n g) × (s ≡ symbolSt t b st x n g) × (v ≡ symbolNumber t b st x n g)
 unfolding symbolList symbolSt symbolNumber
-symbol-new t b b′ st s x n g k m v w a q i j d = let l = le-ltb _ _ (rw (q, i) at j) in (rw l (d .0 ∙ rw (link-of t b st x n g w a)), rw l (d .1), rw l (d .2))
+symbol-new t b b′ st s x n g k m v w a q i j d = let l = le-ltb _ _ (rw (q, i) at j) in (rw l (d .0 ∙ rw a), rw l (d .1), rw l (d .2))
 
 -- a note, an entry: it fits, it does not
 pub note-in : (l l′ : List ℕ) (st s : St) (h w v : ℕ) (f : Bool) → (l′ ≡ pick (ltb (st .notes) (length l / 4)) (four l (st .notes) h w v 0) l) × (f ≡ ltb (st .notes) (length l / 4)) → f ≡ true
@@ -291,20 +291,20 @@ clear-end d s i v h =
     v .2 ∙ rw (e, drop-length d, append-nil {A = ℕ} (replicate (length d) 0))
 
 -- a record: it fits, it does not
-pub put-in : (l : List ℕ) (st s : St) (k h w m a b c : ℕ) (r : Range) → h ≡ wordOf k (st .line) → w ≡ rangeWord r → m ≡ listRoom (length l) → st .records < m
+pub put-in : (l : List ℕ) (st s : St) (k h w m a b c : ℕ) (r : Range) → h ≡ wordOf k (st .line) → w ≡ rangeWord r → m ≡ mostRecords (length l) → st .records < m
     → s ≡ withRecords st (st .records + 1) (st .lfull)
     → (set (set (set (set (set l (5 * st .records) h) (5 * st .records + 1) w) (5 * st .records + 2) a) (5 * st .records + 3) b) (5 * st .records + 4) c ≡ putRec l st k r a b c) × (s ≡ putSt l st)
 unfolding putList putSt
 put-in l st s k h w m a b c r i j e f g = let t = lt-ltb _ _ (rw e at f) in (rw (i, j, t), g ∙ rw t)
 
-pub put-out : (l : List ℕ) (st s : St) (k m a b c : ℕ) (r : Range) → m ≡ listRoom (length l) → m ≤ st .records → s ≡ withRecords st (st .records) true
+pub put-out : (l : List ℕ) (st s : St) (k m a b c : ℕ) (r : Range) → m ≡ mostRecords (length l) → m ≤ st .records → s ≡ withRecords st (st .records) true
     → (l ≡ putRec l st k r a b c) × (s ≡ putSt l st)
 unfolding putList putSt
 put-out l st s k m a b c r e f g = let t = le-ltb _ _ (rw e at f) in (rw t, g ∙ rw t)
 
 -- an entry of another kind, and a name
-pub name-other : (t : List ℕ) (h a n x b m y k : ℕ) → k ≡ kind h → (k ≡ 50 → ⊥) → false ≡ isName t h a n x b m y
+pub name-other : (t : List ℕ) (h a n x b m y k : ℕ) → k ≡ kind h → (k ≡ 50 → ⊥) → false ≡ isNameEntry t h a n x b m y
 name-other t h a n x b m y k e f = rw (ne-eqb (kind h) 50 (rw e at f))
 
-pub name-same : (t : List ℕ) (h a n x b m y c k : ℕ) (f : Bool) → k ≡ kind h → k ≡ 50 → c ≡ sigilCode y → f ≡ sameName t a n (x % 4) b m c → f ≡ isName t h a n x b m y
+pub name-same : (t : List ℕ) (h a n x b m y c k : ℕ) (f : Bool) → k ≡ kind h → k ≡ 50 → c ≡ sigilCode y → f ≡ sameName t a n (x % 4) b m c → f ≡ isNameEntry t h a n x b m y
 name-same t h a n x b m y c k f e g j i = rw (eq-eqb (kind h) 50 (rw e at g), ← j) i

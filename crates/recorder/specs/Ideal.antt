@@ -119,8 +119,8 @@ withC v r = rec (r .call) (r .line) (r .range) (r .a) (r .b) v
 abbrev pub settled : ℕ → Rec → Rec
 settled v r = rec (r .call) (r .line) (r .range) v 0 0
 
-abbrev pub unsettled : Rec → Rec
-unsettled r = rec (r .call) (r .line) (r .range) (r .a) 0 0
+abbrev pub unlabelled : Rec → Rec
+unlabelled r = rec (r .call) (r .line) (r .range) (r .a) 0 0
 
 abbrev pub noRange : Range
 noRange = record { start = 0; end = 0 }
@@ -156,6 +156,6 @@ idealR t clean = record {
   patchEnd = λ i k v. onRecords (λ rs. change (withC v) rs k) i;
   look = λ i k. lookOf (getD (i .records) k noRec);
   settle = λ i k v. onRecords (λ rs. change (settled v) rs k) i;
-  unsettle = λ i k. onRecords (λ rs. change unsettled rs k) i;
+  dropLabel = λ i k. onRecords (λ rs. change unlabelled rs k) i;
   cleanUp = clean;
 }

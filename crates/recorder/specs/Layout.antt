@@ -1,6 +1,6 @@
 -- How records, notes and book entries stand in words.
 use mathlib.Core.List.{List, [], _∷_, _++_}
-use Prim.Native.Nat.{ℕ, _-_}
+use Prim.Native.Nat.{ℕ, _-_, _/_, min}
 use lib.ListN.{length, replicate}
 use Rattle.recorder.specs.Word.{wordOf, rangeWord}
 use Rattle.recorder.specs.Ideal.{Rec, Note, Entry}
@@ -21,6 +21,7 @@ abbrev pub wordsOf : {A : Type 0} → (A → List ℕ) → List A → List ℕ
 wordsOf f [] = []
 wordsOf f (x ∷ xs) = f x ++ wordsOf f xs
 
+-- so many words each
 abbrev pub recSize : ℕ
 recSize = 5
 
@@ -29,6 +30,26 @@ noteSize = 4
 
 abbrev pub entrySize : ℕ
 entrySize = 4
+
+-- where a record's range and its arguments stand, and an entry's start, length and extra
+abbrev pub rangeWordAt : ℕ
+rangeWordAt = 1
+
+abbrev pub argA : ℕ
+argA = 2
+
+abbrev pub argB : ℕ
+argB = 3
+
+abbrev pub argC : ℕ
+argC = 4
+
+abbrev pub extraAt : ℕ
+extraAt = 3
+
+-- "List below five words a record, or more than 65,535 records": so many records fit into so many words
+abbrev pub mostRecords : ℕ → ℕ
+mostRecords words = min (words / recSize) 65535
 
 -- so many words, zeros behind
 abbrev pub fill : ℕ → List ℕ → List ℕ

@@ -24,10 +24,10 @@ addrOf [] l = missing
 addrOf (m ∷ ms) l = orElse (addrOf ms l) (pick (eqb (m .label) l) (found (m .addr)) missing)
 
 -- "A DATA index is the first DATA of that label."
-abbrev pub datumOf : ℕ → Search
-datumOf zero = missing
-datumOf (suc n) = found n
+abbrev pub datumFrom : ℕ → Search
+datumFrom zero = missing
+datumFrom (suc n) = found n
 
 unfoldable pub dataOf : List Mark → ℕ → Search
 dataOf [] l = missing
-dataOf (m ∷ ms) l = orElse (pick (eqb (m .label) l) (datumOf (m .first)) missing) (dataOf ms l)
+dataOf (m ∷ ms) l = orElse (pick (eqb (m .label) l) (datumFrom (m .first)) missing) (dataOf ms l)

@@ -7,9 +7,10 @@ use lib.Dec.{ltb, eqb}
 use lib.ListN.{length, getD, set, take, drop}
 use Rattle.recorder.specs.declared.word.Range.{Range}
 use Rattle.recorder.specs.declared.codegen.St.{St}
-use Rattle.recorder.specs.declared.codegen.Way.{Way}
+use Rattle.recorder.specs.declared.codegen.Descent.{Descent}
 use Rattle.recorder.specs.Word.{pick, both, kind, kindAt, payloadAt, rangeAt, wordOf, rangeWord, next}
 use Rattle.recorder.specs.Name.{upper, sameName}
+use Rattle.recorder.specs.Layout.{recSize, noteSize, entrySize, rangeWordAt, argA, argB, argC, extraAt, mostRecords}
 use Rattle.recorder.specs.Ideal.{Rec, rec, noRange, lookOf, firstOf}
 use Rattle.recorder.specs.Recorder.{Recorder, Look, unknown}
 use Rattle.recorder.specs.Closing.{isWhile, isWend, isStart, isEnd, isOne, isFor, isNextOf, roundUp}
@@ -50,10 +51,6 @@ withData s n d = record { records = s .records; notes = s .notes; entries = s .e
 abbrev pub withBytes : St → ℕ → St
 withBytes s n = record { records = s .records; notes = s .notes; entries = s .entries; names = s .names; root = s .root; datums = s .datums; bytes = n; line = s .line; first = s .first; lfull = s .lfull; nfull = s .nfull; bfull = s .bfull }
 
--- "List below five words a record, or more than 65,535 records": so many records fit
-abbrev pub listRoom : ℕ → ℕ
-listRoom words = min (words / 5) 65535
-
 -- the number within its kind that an entry gets: the low 24 bits of the count
 abbrev pub low : ℕ → ℕ
 low n = n % 16777216
@@ -64,35 +61,35 @@ more n room = pick (ltb n room) (n + 1) n
 
 -- a record: five words
 unfoldable pub putList : List ℕ → St → ℕ → ℕ → ℕ → ℕ → ℕ → List ℕ
-putList l s h r a b c = pick (ltb (s .records) (listRoom (length l)))
-    (set (set (set (set (set l (5 * s .records) h) (5 * s .records + 1) r) (5 * s .records + 2) a) (5 * s .records + 3) b) (5 * s .records + 4) c) l
+putList l s h r a b c = pick (ltb (s .records) (mostRecords (length l)))
+    (set (set (set (set (set l (recSize * s .records) h) (recSize * s .records + rangeWordAt) r) (recSize * s .records + argA) a) (recSize * s .records + argB) b) (recSize * s .records + argC) c) l
 
 unfoldable pub putSt : List ℕ → St → St
-putSt l s = pick (ltb (s .records) (listRoom (length l))) (withRecords s (s .records + 1) (s .lfull)) (withRecords s (s .records) true)
+putSt l s = pick (ltb (s .records) (mostRecords (length l))) (withRecords s (s .records + 1) (s .lfull)) (withRecords s (s .records) true)
 
 abbrev pub putRec : List ℕ → St → ℕ → Range → ℕ → ℕ → ℕ → List ℕ
 putRec l s k r a b c = putList l s (wordOf k (s .line)) (rangeWord r) a b c
 
--- a note, or an entry: four words
+-- a note, or an entry: the n-th four words
 abbrev pub four : List ℕ → ℕ → ℕ → ℕ → ℕ → ℕ → List ℕ
 four l n h x y z = set (set (set (set l (4 * n) h) (4 * n + 1) x) (4 * n + 2) y) (4 * n + 3) z
 
 unfoldable pub noteList : List ℕ → St → ℕ → ℕ → ℕ → List ℕ
-noteList l s h r v = pick (ltb (s .notes) (length l / 4)) (four l (s .notes) h r v 0) l
+noteList l s h r v = pick (ltb (s .notes) (length l / noteSize)) (four l (s .notes) h r v 0) l
 
 unfoldable pub noteSt : List ℕ → St → St
-noteSt l s = pick (ltb (s .notes) (length l / 4)) (withNotes s (s .notes + 1) (s .nfull)) (withNotes s (s .notes) true)
+noteSt l s = pick (ltb (s .notes) (length l / noteSize)) (withNotes s (s .notes + 1) (s .nfull)) (withNotes s (s .notes) true)
 
 unfoldable pub entryList : List ℕ → St → ℕ → ℕ → ℕ → ℕ → List ℕ
-entryList b s h x y z = pick (ltb (s .entries) (length b / 4)) (four b (s .entries) h x y z) b
+entryList b s h x y z = pick (ltb (s .entries) (length b / entrySize)) (four b (s .entries) h x y z) b
 
 unfoldable pub entrySt : List ℕ → St → St
-entrySt b s = pick (ltb (s .entries) (length b / 4)) (withEntries s (s .entries + 1) (s .bfull)) (withEntries s (s .entries) true)
+entrySt b s = pick (ltb (s .entries) (length b / entrySize)) (withEntries s (s .entries + 1) (s .bfull)) (withEntries s (s .entries) true)
 
 -- While compiling, the names of the book are a binary tree, gone through by the bits of a hash of the name. A name's last word has
 -- a code of its sigil in its low 2 bits, and above it, 15 bits each, the entries of its two children, later names, 0 for none.
--- The way to a name is the entries that the bits of its hash, its turns, lead through. Entries
--- from 32,768 on are in no tree. Closing up leaves the sigil alone in the word.
+-- The descent to a name goes from an entry to one of its children, by the highest bit left of the name's hash. Entries from
+-- 32,768 on are in no tree. Closing up leaves the sigil alone in the word.
 abbrev pub sigilCode : ℕ → ℕ
 sigilCode g = pick (eqb g 36) 1 (pick (eqb g 37) 2 0)
 
@@ -107,87 +104,87 @@ withLink high w k = pick high (w % 131072 + 131072 * (k % 32768)) (w / 131072 * 
 
 -- the entries that the book has
 abbrev pub known : List ℕ → St → ℕ
-known b s = min (s .entries) (length b / 4)
+known b s = min (s .entries) (length b / entrySize)
 
 -- whether an entry is this name
-abbrev pub isName : List ℕ → ℕ → ℕ → ℕ → ℕ → ℕ → ℕ → ℕ → Bool
-isName t h a m y x n g = pick (eqb (kind h) 50) (sameName t a m (y % 4) x n (sigilCode g)) false
+abbrev pub isNameEntry : List ℕ → ℕ → ℕ → ℕ → ℕ → ℕ → ℕ → ℕ → Bool
+isNameEntry t h a m y x n g = pick (eqb (kind h) 50) (sameName t a m (y % 4) x n (sigilCode g)) false
 
 abbrev pub namedAt : List ℕ → List ℕ → ℕ → ℕ → ℕ → ℕ → Bool
-namedAt t b k x n g = pick (ltb k (length b / 4)) (isName t (getD b (4 * k) 0) (getD b (4 * k + 1) 0) (getD b (4 * k + 2) 0) (getD b (4 * k + 3) 0) x n g) false
+namedAt t b k x n g = pick (ltb k (length b / entrySize)) (isNameEntry t (getD b (entrySize * k) 0) (getD b (entrySize * k + 1) 0) (getD b (entrySize * k + 2) 0) (getD b (entrySize * k + extraAt) 0) x n g) false
 
 -- the first of `left` entries, from the k-th on, that is this name; k + left if none is
 unfoldable pub lookup : List ℕ → List ℕ → ℕ → ℕ → ℕ → ℕ → ℕ → ℕ
 lookup t b x n g k zero = k
 lookup t b x n g k (suc left) = pick (namedAt t b k x n g) k (lookup t b x n g (k + 1) left)
 
--- the hash: a number of 32 bits from a name's units in upper case, its highest bit the first turn
-abbrev pub mix : ℕ → ℕ → ℕ
-mix h u = (h + u) * 2654435769 % 4294967296
+-- the hash: a number of 32 bits from a name's units in upper case, its highest bit chooses the first child
+abbrev pub hashStep : ℕ → ℕ → ℕ
+hashStep h u = (h + u) * 2654435769 % 4294967296
 
-unfoldable pub turnsOf : List ℕ → ℕ → ℕ → ℕ → ℕ
-turnsOf t at h zero = h
-turnsOf t at h (suc n) = turnsOf t (next t at) (mix h (upper (getD t at 0))) n
+unfoldable pub hashOf : List ℕ → ℕ → ℕ → ℕ → ℕ
+hashOf t at h zero = h
+hashOf t at h (suc n) = hashOf t (next t at) (hashStep h (upper (getD t at 0))) n
 
--- the entry that the way leads on to
-abbrev pub onward : List ℕ → Way → ℕ
-onward b w = pick (ltb (w .at) (length b / 4)) (linkOf (ltb 2147483647 (w .turns)) (getD b (4 * w .at + 3) 0)) 0
+-- the child that the descent goes on to, and whether there is one: a later entry that the book has
+abbrev pub childOf : List ℕ → Descent → ℕ
+childOf b w = pick (ltb (w .at) (length b / entrySize)) (linkOf (ltb 2147483647 (w .bits)) (getD b (entrySize * w .at + extraAt) 0)) 0
 
-abbrev pub leads : List ℕ → ℕ → Way → Bool
-leads b end w = both (ltb (w .at) (onward b w)) (ltb (onward b w) end)
+abbrev pub hasChild : List ℕ → ℕ → Descent → Bool
+hasChild b end w = both (ltb (w .at) (childOf b w)) (ltb (childOf b w) end)
 
-abbrev pub moved : ℕ → Way → Way
-moved k w = record { at = k; turns = w .turns * 2 % 4294967296 }
+abbrev pub toChild : ℕ → Descent → Descent
+toChild k w = record { at = k; bits = w .bits * 2 % 4294967296 }
 
--- the way to a name, up to the name or to where it would be linked
-unfoldable pub wayFrom : List ℕ → List ℕ → ℕ → ℕ → ℕ → ℕ → Way → ℕ → Way
-wayFrom t b end x n g w zero = w
-wayFrom t b end x n g w (suc left) = pick (namedAt t b (w .at) x n g) w (pick (leads b end w) (wayFrom t b end x n g (moved (onward b w) w) left) w)
+-- the descent to a name, up to the name or to where it would be linked
+unfoldable pub descentFrom : List ℕ → List ℕ → ℕ → ℕ → ℕ → ℕ → Descent → ℕ → Descent
+descentFrom t b end x n g w zero = w
+descentFrom t b end x n g w (suc left) = pick (namedAt t b (w .at) x n g) w (pick (hasChild b end w) (descentFrom t b end x n g (toChild (childOf b w) w) left) w)
 
-unfoldable pub wayTo : List ℕ → List ℕ → St → ℕ → ℕ → ℕ → Way
-wayTo t b s x n g = wayFrom t b (known b s) x n g (record { at = s .root - 1; turns = turnsOf t x (sigilCode g) n }) (known b s)
+unfoldable pub descentTo : List ℕ → List ℕ → St → ℕ → ℕ → ℕ → Descent
+descentTo t b s x n g = descentFrom t b (known b s) x n g (record { at = s .root - 1; bits = hashOf t x (sigilCode g) n }) (known b s)
 
 -- the entry of a name; `known` if there is none
-unfoldable pub seek : List ℕ → List ℕ → St → ℕ → ℕ → ℕ → ℕ
-seek t b s x n g =
-    pick (both (ltb 0 (s .root)) (both (ltb (wayTo t b s x n g .at) (known b s)) (namedAt t b (wayTo t b s x n g .at) x n g)))
-    (wayTo t b s x n g .at)
+unfoldable pub entryOf : List ℕ → List ℕ → St → ℕ → ℕ → ℕ → ℕ
+entryOf t b s x n g =
+    pick (both (ltb 0 (s .root)) (both (ltb (descentTo t b s x n g .at) (known b s)) (namedAt t b (descentTo t b s x n g .at) x n g)))
+    (descentTo t b s x n g .at)
     (lookup t b x n g (min (known b s) 32768) (known b s - 32768))
 
 -- the next entry is one that a tree may hold
 abbrev pub mayLink : List ℕ → St → Bool
-mayLink b s = both (ltb (s .entries) (length b / 4)) (ltb (s .entries) 32768)
+mayLink b s = both (ltb (s .entries) (length b / entrySize)) (ltb (s .entries) 32768)
 
--- a new name, the next entry, is linked where its way ends
-unfoldable pub linkedAt : List ℕ → ℕ → Way → List ℕ
-linkedAt b k w = pick (ltb (w .at) (length b / 4)) (set b (4 * w .at + 3) (withLink (ltb 2147483647 (w .turns)) (getD b (4 * w .at + 3) 0) k)) b
+-- a new name, the next entry, is linked where its descent ends
+unfoldable pub linkedAt : List ℕ → ℕ → Descent → List ℕ
+linkedAt b k w = pick (ltb (w .at) (length b / entrySize)) (set b (entrySize * w .at + extraAt) (withLink (ltb 2147483647 (w .bits)) (getD b (entrySize * w .at + extraAt) 0) k)) b
 
-unfoldable pub linked : List ℕ → List ℕ → St → ℕ → ℕ → ℕ → List ℕ
-linked t b s x n g = pick (both (ltb 0 (s .root)) (mayLink b s)) (linkedAt b (s .entries) (wayTo t b s x n g)) b
+unfoldable pub linked : List ℕ → St → Descent → List ℕ
+linked b s w = pick (both (ltb 0 (s .root)) (mayLink b s)) (linkedAt b (s .entries) w) b
 
 -- the first name of the tree plus 1, or 0
 unfoldable pub rootOf : List ℕ → St → ℕ
 rootOf b s = pick (both (eqb (s .root) 0) (mayLink b s)) (s .entries + 1) (s .root)
 
--- a new name, whose way ends at w: linked, and put as the next entry
-abbrev pub newList : List ℕ → St → Way → ℕ → ℕ → ℕ → List ℕ
-newList b s w x n g = entryList (pick (both (ltb 0 (s .root)) (mayLink b s)) (linkedAt b (s .entries) w) b) s (wordOf 50 (low (s .names))) x n (sigilCode g)
+-- a new name, whose descent ends at w: linked, and put as the next entry
+abbrev pub newList : List ℕ → St → Descent → ℕ → ℕ → ℕ → List ℕ
+newList b s w x n g = entryList (linked b s w) s (wordOf 50 (low (s .names))) x n (sigilCode g)
 
 abbrev pub newSt : List ℕ → St → St
-newSt b s = withNames (entrySt b s) (more (s .names) (length b / 4)) (rootOf b s)
+newSt b s = withNames (entrySt b s) (more (s .names) (length b / entrySize)) (rootOf b s)
 
 unfoldable pub symbolNumber : List ℕ → List ℕ → St → ℕ → ℕ → ℕ → ℕ
-symbolNumber t b s x n g = pick (ltb (seek t b s x n g) (known b s)) (payloadAt b (4 * seek t b s x n g)) (low (s .names))
+symbolNumber t b s x n g = pick (ltb (entryOf t b s x n g) (known b s)) (payloadAt b (entrySize * entryOf t b s x n g)) (low (s .names))
 
 unfoldable pub symbolList : List ℕ → List ℕ → St → ℕ → ℕ → ℕ → List ℕ
-symbolList t b s x n g = pick (ltb (seek t b s x n g) (known b s)) b (entryList (linked t b s x n g) s (wordOf 50 (low (s .names))) x n (sigilCode g))
+symbolList t b s x n g = pick (ltb (entryOf t b s x n g) (known b s)) b (newList b s (descentTo t b s x n g) x n g)
 
 unfoldable pub symbolSt : List ℕ → List ℕ → St → ℕ → ℕ → ℕ → St
-symbolSt t b s x n g = pick (ltb (seek t b s x n g) (known b s)) s (newSt b s)
+symbolSt t b s x n g = pick (ltb (entryOf t b s x n g) (known b s)) s (newSt b s)
 
 -- closing up: a name's last word is its sigil again
 abbrev pub unlinkAt : List ℕ → ℕ → List ℕ
-unlinkAt b k = pick (eqb (kindAt b (4 * k)) 50) (set b (4 * k + 3) (sigilOf (getD b (4 * k + 3) 0 % 4))) b
+unlinkAt b k = pick (eqb (kindAt b (entrySize * k)) 50) (set b (entrySize * k + extraAt) (sigilOf (getD b (entrySize * k + extraAt) 0 % 4))) b
 
 unfoldable pub unlinkFrom : List ℕ → ℕ → ℕ → List ℕ
 unlinkFrom b k zero = b
@@ -201,32 +198,32 @@ unfoldable pub datumList : List ℕ → St → ℕ → ℕ → ℕ → List ℕ
 datumList b s x n q = entryList b s (wordOf 51 (low (s .datums))) x n q
 
 unfoldable pub datumSt : List ℕ → St → St
-datumSt b s = withData (entrySt b s) (more (s .datums) (length b / 4)) (firstOf (s .first) (low (s .datums)))
+datumSt b s = withData (entrySt b s) (more (s .datums) (length b / entrySize)) (firstOf (s .first) (low (s .datums)))
 
 unfoldable pub byteList : List ℕ → St → ℕ → ℕ → ℕ → List ℕ
 byteList b s x n v = entryList b s (wordOf 52 (low (s .bytes))) x n v
 
 unfoldable pub byteSt : List ℕ → St → St
-byteSt b s = withBytes (entrySt b s) (more (s .bytes) (length b / 4))
+byteSt b s = withBytes (entrySt b s) (more (s .bytes) (length b / entrySize))
 
 -- an earlier record, written as the part of the list that begins at it
 unfoldable pub part : (List ℕ → List ℕ) → List ℕ → ℕ → List ℕ
 part f l at = take at l ++ f (drop at l)
 
 unfoldable pub atRec : (List ℕ → List ℕ) → List ℕ → ℕ → List ℕ
-atRec f l k = pick (ltb k (length l / 5)) (part f l (5 * k)) l
+atRec f l k = pick (ltb k (length l / recSize)) (part f l (recSize * k)) l
 
 unfoldable pub onRec : (List ℕ → List ℕ) → List ℕ → St → ℕ → List ℕ
 onRec f l s k = pick (ltb k (s .records)) (atRec f l k) l
 
 abbrev pub setA : ℕ → List ℕ → List ℕ
-setA v p = set p 2 v
+setA v p = set p argA v
 
 abbrev pub setB : ℕ → List ℕ → List ℕ
-setB v p = set p 3 v
+setB v p = set p argB v
 
 abbrev pub setC : ℕ → List ℕ → List ℕ
-setC v p = set p 4 v
+setC v p = set p argC v
 
 -- a pending jump or RESTORE that is settled, and one that loses its label
 abbrev pub clearArgs : List ℕ → List ℕ
@@ -237,7 +234,7 @@ settleArgs v p = clearArgs (setA v p)
 
 -- what the words of a record say
 abbrev pub recOf : List ℕ → ℕ → Rec
-recOf l k = rec (kindAt l (5 * k)) (payloadAt l (5 * k)) (rangeAt l (5 * k + 1)) (getD l (5 * k + 2) 0) (getD l (5 * k + 3) 0) (getD l (5 * k + 4) 0)
+recOf l k = rec (kindAt l (recSize * k)) (payloadAt l (recSize * k)) (rangeAt l (recSize * k + rangeWordAt)) (getD l (recSize * k + argA) 0) (getD l (recSize * k + argB) 0) (getD l (recSize * k + argC) 0)
 
 abbrev pub lookAt : List ℕ → ℕ → Look
 lookAt l k = lookOf (recOf l k)
@@ -245,7 +242,7 @@ lookAt l k = lookOf (recOf l k)
 -- patch_while_instr: a pass over the records that links the open WHILEs through argument b, each to the one before it, as
 -- address plus 1 or 0; `top` is the last of them. A WEND closes the last.
 abbrev pub linkAt : List ℕ → ℕ → ℕ
-linkAt l w = getD l (5 * w + 3) 0
+linkAt l w = getD l (recSize * w + argB) 0
 
 unfoldable pub whileList : List ℕ → ℕ → ℕ → List ℕ
 whileList l top k =
@@ -275,7 +272,7 @@ passed l n s = record { list = l; notes = n; st = s }
 abbrev pub openStep : Passed → ℕ → Passed
 openStep p w =
     passed (atRec (setB unknown) (p .list) w)
-    (noteList (p .notes) (p .st) (wordOf 13 (getD (p .list) (5 * w) 0)) (getD (p .list) (5 * w + 1) 0) 1)
+    (noteList (p .notes) (p .st) (wordOf 13 (getD (p .list) (recSize * w) 0)) (getD (p .list) (recSize * w + rangeWordAt) 0) 1)
     (noteSt (p .notes) (p .st))
 
 unfoldable pub openFrom : Passed → ℕ → ℕ → Passed
@@ -284,7 +281,7 @@ openFrom p top (suc left) = pick (eqb top 0) p (openFrom (openStep p (top - 1)) 
 
 -- the records that the list has
 abbrev pub present : List ℕ → St → ℕ
-present l s = min (s .records) (listRoom (length l))
+present l s = min (s .records) (mostRecords (length l))
 
 unfoldable pub patchWhiles : List ℕ → List ℕ → St → Passed
 patchWhiles l n s = openFrom (passed (whilesFrom l 0 0 (present l s)) n s) (topFrom l 0 0 (present l s)) (present l s)
@@ -360,6 +357,6 @@ memR t = record {
   patchEnd = λ m k v. mem (onRec (setC v) (m .list) (m .st) k) (m .notes) (m .book) (m .st);
   look = λ m k. lookAt (m .list) k;
   settle = λ m k v. mem (onRec (settleArgs v) (m .list) (m .st) k) (m .notes) (m .book) (m .st);
-  unsettle = λ m k. mem (onRec clearArgs (m .list) (m .st) k) (m .notes) (m .book) (m .st);
+  dropLabel = λ m k. mem (onRec clearArgs (m .list) (m .st) k) (m .notes) (m .book) (m .st);
   cleanUp = λ m. mem (cleanUpAll (m .list) (m .notes) (m .st) .list) (cleanUpAll (m .list) (m .notes) (m .st) .notes) (unlinked (m .book) (m .st)) (cleanUpAll (m .list) (m .notes) (m .st) .st);
 }

@@ -39,7 +39,7 @@ pub record Recorder (S : Type 0) : Type 0 where
   -- one whose label is nowhere: only its label is gone
   pub look : S → ℕ → Look
   pub settle : S → ℕ → ℕ → S
-  pub unsettle : S → ℕ → S
+  pub dropLabel : S → ℕ → S
   -- clean_up: WHILEs, delays, End
   pub cleanUp : S → S
 

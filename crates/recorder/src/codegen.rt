@@ -18,10 +18,27 @@ ghost use lib.ListN.{length, getD, replicate};
 ghost use Rattle.recorder.specs.Word.{pick, both, wordOf, rangeWord};
 ghost use Rattle.recorder.specs.Name.{upper, sameUnits, sameName};
 ghost use Rattle.recorder.specs.Ideal.{firstOf};
-ghost use Rattle.recorder.specs.Mem.{sigilCode, linkOf, withLink, known, namedAt, mix, turnsOf, wayTo, mayLink, linkedAt, nothing, onLine, withRecords, withNotes, withEntries, withNames, withData, withBytes, listRoom, four, low, more, putSt, putRec, noteList, noteSt, entryList, entrySt, isName, lookup, seek, newList, newSt, symbolNumber, symbolList, symbolSt, datumList, datumSt, byteList, byteSt, onRec, setA, setB, setC, settleArgs, clearArgs, lookAt};
+ghost use Rattle.recorder.specs.Layout.{entrySize, extraAt, mostRecords};
+ghost use Rattle.recorder.specs.Mem.{sigilCode, linkOf, withLink, known, namedAt, hashStep, hashOf, descentTo, linkedAt, linked, nothing, onLine, withRecords, withNotes, withEntries, withNames, withData, withBytes, four, low, more, putSt, putRec, noteList, noteSt, entryList, entrySt, isNameEntry, lookup, entryOf, newList, newSt, symbolNumber, symbolList, symbolSt, datumList, datumSt, byteList, byteSt, onRec, setA, setB, setC, settleArgs, clearArgs, lookAt};
 
-// The counts, the numbers within the book's three kinds, the first name's entry plus 1 (0 without one), the current line with its first datum plus 1 (0 while it has none),
-// and whether something did not fit.
+// How many words a record and an entry have; behind the head of a record stand its range and its three arguments, in an entry last
+// its extra.
+pub const RECORD: usize = 5;
+
+pub const ENTRY: usize = 4;
+
+pub const RANGE: usize = 1;
+
+pub const A: usize = 2;
+
+pub const B: usize = 3;
+
+pub const C: usize = 4;
+
+pub const EXTRA: usize = 3;
+
+// The counts, the numbers within the book's three kinds, the first name's entry plus 1 (0 without one), the current line with
+// its first datum plus 1 (0 while it has none), and whether something did not fit.
 pub struct St {
     pub records: u32,
     pub notes: usize,
@@ -43,15 +60,15 @@ pub struct Named {
     pub number: u32,
 }
 
-// On the way to a name: an entry of the tree, and the bits of the name's hash that are left, the next one the highest.
-pub struct Way {
+// On the descent to a name: an entry of the tree, and the bits of the name's hash that are left, the next one the highest.
+pub struct Descent {
     pub at: usize,
-    pub turns: u32,
+    pub bits: u32,
 }
 
-// What the search for a name finds: where its way ends, and its entry, or how many are known.
-pub struct Sought {
-    pub way: Way,
+// What the search for a name finds: where its descent ends, and its entry, or how many are known.
+pub struct Found {
+    pub descent: Descent,
     pub entry: usize,
 }
 
@@ -229,10 +246,10 @@ fn less(a: usize, b: usize) -> usize
 }
 
 // So many records fit into so many words.
-pub fn list_room(words: usize) -> u32
-    ensures { λ r. ⌜ r ≡ listRoom words ⌝ }
+pub fn most_records(words: usize) -> u32
+    ensures { λ r. ⌜ r ≡ mostRecords words ⌝ }
 {
-    let n = words / 5;
+    let n = words / RECORD;
     if n < 65535 { n as u32 } else { 65535 }
 }
 
@@ -256,13 +273,13 @@ pub fn put(list: &mut [u32], st: St, call: u8, r: Range, a: u32, b: u32, c: u32)
     let full = st.lfull;
     let h = word_of(call, st.line);
     let w = range_word(r);
-    if n < list_room(list.len()) {
-        let i = 5 * (n as usize);
+    if n < most_records(list.len()) {
+        let i = RECORD * (n as usize);
         list[i] = h;
-        list[i + 1] = w;
-        list[i + 2] = a;
-        list[i + 3] = b;
-        list[i + 4] = c;
+        list[i + RANGE] = w;
+        list[i + A] = a;
+        list[i + B] = b;
+        list[i + C] = c;
         with_records(st, n + 1, full)
     } else {
         with_records(st, n, true)
@@ -327,7 +344,7 @@ fn put_entry(book: &mut [u32], st: St, h: u32, x: u32, y: u32, z: u32) -> St
     }
 }
 
-fn raised(x: u16) -> u16
+fn to_ascii_uppercase(x: u16) -> u16
     ensures { λ r. ⌜ r ≡ upper x ⌝ }
 {
     if x < 97 {
@@ -346,7 +363,7 @@ fn same_units(text: &[u16], a: usize, b: usize, n: u32) -> bool
     let mut q = b;
     let mut left = n;
     while 0 < left {
-        if raised(unit_at(text, p)) != raised(unit_at(text, q)) {
+        if to_ascii_uppercase(unit_at(text, p)) != to_ascii_uppercase(unit_at(text, q)) {
             return false;
         }
         p = behind_unit(text, p);
@@ -402,7 +419,7 @@ fn with_link(high: bool, w: u32, k: usize) -> u32
 
 // Whether the four words of an entry are a name's, and that name is this one.
 fn is_named(text: &[u16], h: u32, a: u32, n: u32, y: u32, start: u32, len: u32, sigil: u32) -> bool
-    ensures { λ r. ⌜ r ≡ isName (now (text .entry)) h a n y start len sigil ⌝ }
+    ensures { λ r. ⌜ r ≡ isNameEntry (now (text .entry)) h a n y start len sigil ⌝ }
 {
     if kind_of(h) != 50 {
         return false;
@@ -413,14 +430,14 @@ fn is_named(text: &[u16], h: u32, a: u32, n: u32, y: u32, start: u32, len: u32, 
 fn named_at(text: &[u16], book: &[u32], k: usize, start: u32, len: u32, sigil: u32) -> bool
     ensures { λ r. ⌜ r ≡ namedAt (now (text .entry)) (now (book .entry)) k start len sigil ⌝ }
 {
-    if k < book.len() / 4 {
-        let i = 4 * k;
+    if k < book.len() / ENTRY {
+        let i = ENTRY * k;
         is_named(
             &*text,
             word_at(&*book, i),
             word_at(&*book, i + 1),
             word_at(&*book, i + 2),
-            word_at(&*book, i + 3),
+            word_at(&*book, i + EXTRA),
             start,
             len,
             sigil,
@@ -440,10 +457,10 @@ fn find(
     from: usize,
     entries: usize,
 ) -> usize
-    ensures { λ r. ⌜ r ≡ lookup (now (text .entry)) (now (book .entry)) start len sigil from (min entries (length (now (book .entry)) / 4) - from) ⌝ }
+    ensures { λ r. ⌜ r ≡ lookup (now (text .entry)) (now (book .entry)) start len sigil from (min entries (length (now (book .entry)) / entrySize) - from) ⌝ }
 {
     let mut k: usize = from;
-    let mut left = less(least(entries, book.len() / 4), from);
+    let mut left = less(least(entries, book.len() / ENTRY), from);
     while 0 < left {
         left -= 1;
         if named_at(&*text, &*book, k, start, len, sigil) {
@@ -454,74 +471,74 @@ fn find(
     k
 }
 
-fn mix(h: u32, u: u16) -> u32
-    ensures { λ r. ⌜ r ≡ mix h u ⌝ }
+fn hash_step(h: u32, u: u16) -> u32
+    ensures { λ r. ⌜ r ≡ hashStep h u ⌝ }
 {
     ((h as u64 + u as u64) * 2654435769 % 4294967296) as u32
 }
 
-// The turns of a name's way: a hash of its units in upper case.
-fn turns_of(text: &[u16], at: u32, first: u32, n: u32) -> u32
-    ensures { λ r. ⌜ r ≡ turnsOf (now (text .entry)) at first n ⌝ }
+// The hash of a name: its bits choose the children on the descent to it.
+fn hash_of(text: &[u16], at: u32, first: u32, n: u32) -> u32
+    ensures { λ r. ⌜ r ≡ hashOf (now (text .entry)) at first n ⌝ }
 {
     let mut p = at as usize;
     let mut h = first;
     let mut left = n;
     while 0 < left {
-        h = mix(h, raised(unit_at(text, p)));
+        h = hash_step(h, to_ascii_uppercase(unit_at(text, p)));
         p = behind_unit(text, p);
         left -= 1;
     }
     h
 }
 
-fn is_high(turns: u32) -> bool
-    ensures { λ r. ⌜ r ≡ ltb 2147483647 turns ⌝ }
+fn is_high(bits: u32) -> bool
+    ensures { λ r. ⌜ r ≡ ltb 2147483647 bits ⌝ }
 {
-    2147483647 < turns
+    2147483647 < bits
 }
 
-fn next_turn(turns: u32) -> u32
-    ensures { λ r. ⌜ r ≡ turns * 2 % 4294967296 ⌝ }
+fn next_bits(bits: u32) -> u32
+    ensures { λ r. ⌜ r ≡ bits * 2 % 4294967296 ⌝ }
 {
-    (turns as u64 * 2 % 4294967296) as u32
+    (bits as u64 * 2 % 4294967296) as u32
 }
 
-// The entry that the way leads on to.
-fn onward(book: &[u32], at: usize, turns: u32) -> usize
-    ensures { λ r. ⌜ r ≡ pick (ltb at (length (now (book .entry)) / 4)) (linkOf (ltb 2147483647 turns) (getD (now (book .entry)) (4 * at + 3) 0)) 0 ⌝ }
+// The child that the descent goes on to.
+fn child_of(book: &[u32], at: usize, bits: u32) -> usize
+    ensures { λ r. ⌜ r ≡ pick (ltb at (length (now (book .entry)) / entrySize)) (linkOf (ltb 2147483647 bits) (getD (now (book .entry)) (entrySize * at + extraAt) 0)) 0 ⌝ }
 {
-    if at < book.len() / 4 {
-        link_of(is_high(turns), word_at(book, 4 * at + 3)) as usize
+    if at < book.len() / ENTRY {
+        link_of(is_high(bits), word_at(book, ENTRY * at + EXTRA)) as usize
     } else {
         0
     }
 }
 
-// The way to a name, up to the name or to where it would be linked.
-fn way_to(text: &[u16], book: &[u32], st: St, start: u32, len: u32, sigil: u32) -> Way
-    ensures { λ r. ⌜ r ≡ wayTo (now (text .entry)) (now (book .entry)) st start len sigil ⌝ }
+// The descent to a name, up to the name or to where it would be linked.
+fn descent_to(text: &[u16], book: &[u32], st: St, start: u32, len: u32, sigil: u32) -> Descent
+    ensures { λ r. ⌜ r ≡ descentTo (now (text .entry)) (now (book .entry)) st start len sigil ⌝ }
 {
-    let end = least(st.entries, book.len() / 4);
+    let end = least(st.entries, book.len() / ENTRY);
     let mut at = less(st.root, 1);
-    let mut turns = turns_of(&*text, start, sigil_code(sigil), len);
+    let mut bits = hash_of(&*text, start, sigil_code(sigil), len);
     let mut left = end;
     while 0 < left {
         left -= 1;
         if named_at(&*text, &*book, at, start, len, sigil) {
-            return Way { at, turns };
+            return Descent { at, bits };
         }
-        let k = onward(&*book, at, turns);
+        let k = child_of(&*book, at, bits);
         if k <= at {
-            return Way { at, turns };
+            return Descent { at, bits };
         }
         if end <= k {
-            return Way { at, turns };
+            return Descent { at, bits };
         }
         at = k;
-        turns = next_turn(turns);
+        bits = next_bits(bits);
     }
-    Way { at, turns }
+    Descent { at, bits }
 }
 
 fn may_link(st: St, room: usize) -> bool
@@ -545,28 +562,28 @@ fn root_of(st: St, room: usize) -> usize
     st.root
 }
 
-// A new name, linked where its way ends.
-fn link(book: &mut [u32], at: usize, turns: u32, k: usize)
-    ensures { λ r. ⌜ now (book .exit) ≡ linkedAt (now (book .entry)) k (record { at = at; turns = turns }) ⌝ }
+// A new name, linked where its descent ends.
+fn link(book: &mut [u32], at: usize, bits: u32, k: usize)
+    ensures { λ r. ⌜ now (book .exit) ≡ linkedAt (now (book .entry)) k (record { at = at; bits = bits }) ⌝ }
 {
-    if at < book.len() / 4 {
-        let i = 4 * at + 3;
-        book[i] = with_link(is_high(turns), word_at(book, i), k);
+    if at < book.len() / ENTRY {
+        let i = ENTRY * at + EXTRA;
+        book[i] = with_link(is_high(bits), word_at(book, i), k);
     }
 }
 
 // The same, where there is a tree and it may hold the next entry.
-fn link_next(book: &mut [u32], st: St, at: usize, turns: u32)
-    ensures { λ r. ⌜ now (book .exit) ≡ pick (both (ltb 0 (st .root)) (mayLink (now (book .entry)) st)) (linkedAt (now (book .entry)) (st .entries) (record { at = at; turns = turns })) (now (book .entry)) ⌝ }
+fn link_next(book: &mut [u32], st: St, at: usize, bits: u32)
+    ensures { λ r. ⌜ now (book .exit) ≡ linked (now (book .entry)) st (record { at = at; bits = bits }) ⌝ }
 {
     if 0 < st.root {
-        if may_link(st, book.len() / 4) {
-            link(book, at, turns, st.entries);
+        if may_link(st, book.len() / ENTRY) {
+            link(book, at, bits, st.entries);
         }
     }
 }
 
-// Whether the way in a tree ended at the name itself.
+// Whether the descent in a tree ended at the name itself.
 fn is_reached(
     text: &[u16],
     book: &[u32],
@@ -588,11 +605,19 @@ fn is_reached(
     named_at(&*text, &*book, at, start, len, sigil)
 }
 
-// The entry of a name whose way ends at `at`, or how many are known.
-fn seek(text: &[u16], book: &[u32], st: St, at: usize, start: u32, len: u32, sigil: u32) -> usize
+// The entry of a name whose descent ends at `at`, or how many are known.
+fn entry_of(
+    text: &[u16],
+    book: &[u32],
+    st: St,
+    at: usize,
+    start: u32,
+    len: u32,
+    sigil: u32,
+) -> usize
     ensures { λ r. ⌜ r ≡ pick (both (ltb 0 (st .root)) (both (ltb at (known (now (book .entry)) st)) (namedAt (now (text .entry)) (now (book .entry)) at start len sigil))) at (lookup (now (text .entry)) (now (book .entry)) start len sigil (min (known (now (book .entry)) st) 32768) (known (now (book .entry)) st - 32768)) ⌝ }
 {
-    let end = least(st.entries, book.len() / 4);
+    let end = least(st.entries, book.len() / ENTRY);
     if is_reached(&*text, &*book, st.root, end, at, start, len, sigil) {
         return at;
     }
@@ -609,29 +634,29 @@ fn seek(text: &[u16], book: &[u32], st: St, at: usize, start: u32, len: u32, sig
 
 // The search for a name. It is apart from what makes one, so that the state is not copied where the name is known. Slices go on
 // as `&*` here and in what it calls: a copied one is written in two parts and read as one, for which the processor waits.
-fn find_symbol(text: &[u16], book: &[u32], st: St, start: u32, len: u32, sigil: u32) -> Sought
-    ensures { λ r. ⌜ (r .way ≡ wayTo (now (text .entry)) (now (book .entry)) st start len sigil) × (r .entry ≡ seek (now (text .entry)) (now (book .entry)) st start len sigil) ⌝ }
+fn find_symbol(text: &[u16], book: &[u32], st: St, start: u32, len: u32, sigil: u32) -> Found
+    ensures { λ r. ⌜ (r .descent ≡ descentTo (now (text .entry)) (now (book .entry)) st start len sigil) × (r .entry ≡ entryOf (now (text .entry)) (now (book .entry)) st start len sigil) ⌝ }
 {
-    let way = way_to(&*text, &*book, st, start, len, sigil);
-    let at = way.at;
-    let entry = seek(&*text, &*book, st, at, start, len, sigil);
-    Sought { way, entry }
+    let descent = descent_to(&*text, &*book, st, start, len, sigil);
+    let at = descent.at;
+    let entry = entry_of(&*text, &*book, st, at, start, len, sigil);
+    Found { descent, entry }
 }
 
-// A new name: linked where its way ends, and put into the book.
+// A new name: linked where its descent ends, and put into the book.
 fn new_symbol(
     book: &mut [u32],
     st: St,
     at: usize,
-    turns: u32,
+    bits: u32,
     start: u32,
     len: u32,
     sigil: u32,
 ) -> Named
-    ensures { λ r. ⌜ (now (book .exit) ≡ newList (now (book .entry)) st (record { at = at; turns = turns }) start len sigil) × (r .st ≡ newSt (now (book .entry)) st) × (r .number ≡ low (st .names)) ⌝ }
+    ensures { λ r. ⌜ (now (book .exit) ≡ newList (now (book .entry)) st (record { at = at; bits = bits }) start len sigil) × (r .st ≡ newSt (now (book .entry)) st) × (r .number ≡ low (st .names)) ⌝ }
 {
-    let room = book.len() / 4;
-    link_next(book, st, at, turns);
+    let room = book.len() / ENTRY;
+    link_next(book, st, at, bits);
     let number = low_bits(st.names);
     let names = one_more(st.names, room);
     let root = root_of(st, room);
@@ -652,13 +677,13 @@ pub fn make_symbol(
     ensures { λ r. ⌜ (now (book .exit) ≡ symbolList (now (text .entry)) (now (book .entry)) st start len sigil) × (r .st ≡ symbolSt (now (text .entry)) (now (book .entry)) st start len sigil) × (r .number ≡ symbolNumber (now (text .entry)) (now (book .entry)) st start len sigil) ⌝ }
 {
     let f = find_symbol(&*text, book, st, start, len, sigil);
-    let way = f.way;
+    let descent = f.descent;
     let k = f.entry;
-    if k < least(st.entries, book.len() / 4) {
-        let found = payload_at(book, 4 * k);
+    if k < least(st.entries, book.len() / ENTRY) {
+        let found = payload_at(book, ENTRY * k);
         return Named { st, number: found };
     }
-    new_symbol(book, st, way.at, way.turns, start, len, sigil)
+    new_symbol(book, st, descent.at, descent.bits, start, len, sigil)
 }
 
 fn first_of(first: u32, n: usize) -> u32
@@ -676,7 +701,7 @@ pub fn emit_datum(book: &mut [u32], st: St, start: u32, len: u32, quoted: u32) -
     ensures { λ r. ⌜ (now (book .exit) ≡ datumList (now (book .entry)) st start len quoted) × (r ≡ datumSt (now (book .entry)) st) ⌝ }
 {
     let number = low_bits(st.datums);
-    let datums = one_more(st.datums, book.len() / 4);
+    let datums = one_more(st.datums, book.len() / ENTRY);
     let first = first_of(st.first, st.datums);
     let s = put_entry(book, st, word_of(51, number), start, len, quoted);
     with_data(s, datums, first)
@@ -687,7 +712,7 @@ pub fn load_byte(book: &mut [u32], st: St, start: u32, len: u32, value: u32) -> 
     ensures { λ r. ⌜ (now (book .exit) ≡ byteList (now (book .entry)) st start len value) × (r ≡ byteSt (now (book .entry)) st) ⌝ }
 {
     let number = low_bits(st.bytes);
-    let bytes = one_more(st.bytes, book.len() / 4);
+    let bytes = one_more(st.bytes, book.len() / ENTRY);
     let s = put_entry(book, st, word_of(52, number), start, len, value);
     with_bytes(s, bytes)
 }
@@ -709,24 +734,24 @@ pub fn current_addr(st: St) -> Addr
 pub fn set_a(part: &mut [u32], v: u32)
     ensures { λ r. ⌜ now (part .exit) ≡ setA v (now (part .entry)) ⌝ }
 {
-    if 2 < part.len() {
-        part[2] = v;
+    if A < part.len() {
+        part[A] = v;
     }
 }
 
 pub fn set_b(part: &mut [u32], v: u32)
     ensures { λ r. ⌜ now (part .exit) ≡ setB v (now (part .entry)) ⌝ }
 {
-    if 3 < part.len() {
-        part[3] = v;
+    if B < part.len() {
+        part[B] = v;
     }
 }
 
 pub fn set_c(part: &mut [u32], v: u32)
     ensures { λ r. ⌜ now (part .exit) ≡ setC v (now (part .entry)) ⌝ }
 {
-    if 4 < part.len() {
-        part[4] = v;
+    if C < part.len() {
+        part[C] = v;
     }
 }
 
@@ -752,8 +777,8 @@ pub fn patch_jump_addr(list: &mut [u32], st: St, at: Addr, target: Addr)
     let v = target.0;
     if k < st.records {
         let i = k as usize;
-        if i < list.len() / 5 {
-            let from = 5 * i;
+        if i < list.len() / RECORD {
+            let from = RECORD * i;
             set_a(&mut list[from..], v);
         }
     }
@@ -767,8 +792,8 @@ pub fn patch_def_end(list: &mut [u32], st: St, at: Addr, end: Addr)
     let v = end.0;
     if k < st.records {
         let i = k as usize;
-        if i < list.len() / 5 {
-            let from = 5 * i;
+        if i < list.len() / RECORD {
+            let from = RECORD * i;
             set_c(&mut list[from..], v);
         }
     }
@@ -779,8 +804,8 @@ fn settle_at(list: &mut [u32], st: St, k: u32, v: u32)
 {
     if k < st.records {
         let i = k as usize;
-        if i < list.len() / 5 {
-            let from = 5 * i;
+        if i < list.len() / RECORD {
+            let from = RECORD * i;
             settle_args(&mut list[from..], v);
         }
     }
@@ -801,14 +826,14 @@ pub fn patch_datum_index(list: &mut [u32], st: St, at: Addr, index: DatumIndex)
 }
 
 // One whose label is nowhere: only its label is gone.
-pub fn unsettle(list: &mut [u32], st: St, at: Addr)
+pub fn drop_label(list: &mut [u32], st: St, at: Addr)
     ensures { λ r. ⌜ now (list .exit) ≡ onRec clearArgs (now (list .entry)) st (at .0) ⌝ }
 {
     let k = at.0;
     if k < st.records {
         let i = k as usize;
-        if i < list.len() / 5 {
-            let from = 5 * i;
+        if i < list.len() / RECORD {
+            let from = RECORD * i;
             clear_args(&mut list[from..]);
         }
     }
@@ -818,12 +843,12 @@ pub fn unsettle(list: &mut [u32], st: St, at: Addr)
 pub fn look(list: &[u32], at: Addr) -> Looked
     ensures { λ r. ⌜ (r .call ≡ lookAt (now (list .entry)) (at .0) .call) × (r .line ≡ lookAt (now (list .entry)) (at .0) .line) × (r .b ≡ lookAt (now (list .entry)) (at .0) .b) × (r .c ≡ lookAt (now (list .entry)) (at .0) .c) ⌝ }
 {
-    let from = 5 * (at.0 as usize);
+    let from = RECORD * (at.0 as usize);
     Looked {
         call: kind_at(list, from),
         line: payload_at(list, from),
-        b: word_at(list, from + 3),
-        c: word_at(list, from + 4),
+        b: word_at(list, from + B),
+        c: word_at(list, from + C),
     }
 }
 

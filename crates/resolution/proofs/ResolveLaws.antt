@@ -15,7 +15,7 @@ use Rattle.recorder.specs.Ideal.{Search, missing, found}
 use Rattle.recorder.specs.Marks.{Mark}
 use Rattle.recorder.specs.Mem.{Mem, mem, memR, passed, cleanUpAll, unlinked, onRec, clearArgs, settleArgs, noteList, noteSt, lookAt}
 use Rattle.rules.specs.Program.{Lines, settleBy, settleJump, settleRestore, resolveLabels, resolveDatumIndices, closeUp}
-use Rattle.resolution.specs.Looks.{lookOf}
+use Rattle.resolution.specs.Looks.{asLook}
 
 pub jump-yes : (call : ℕ) → call ≡ 20 → true ≡ either (eqb call 20) (eqb call 21)
 jump-yes call e = rw e
@@ -23,11 +23,11 @@ jump-yes call e = rw e
 pub jump-or : (call : ℕ) (x : Bool) → (call ≡ 20 → ⊥) → x ≡ eqb call 21 → x ≡ either (eqb call 20) (eqb call 21)
 jump-or call x h e = rw (ne-eqb call 20 h) e
 
-pub look-is : (q : Looked) (call line b c : ℕ) → (q .call ≡ call) × (q .line ≡ line) × (q .b ≡ b) × (q .c ≡ c) → record { call = call; line = line; b = b; c = c } ≡ lookOf q
+pub look-is : (q : Looked) (call line b c : ℕ) → (q .call ≡ call) × (q .line ≡ line) × (q .b ≡ b) × (q .c ≡ c) → record { call = call; line = line; b = b; c = c } ≡ asLook q
 look-is q call line b c p = rw (← p .0, ← p .1, ← p .2, ← p .3)
 
 pub missed : (t b : List ℕ) (l l′ n n′ : List ℕ) (s s′ : St) (k class severity : ℕ) (q : Looked) (r : Range) → l′ ≡ onRec clearArgs l s k → r ≡ unpack (q .c)
-    → (n′ ≡ noteList n s (wordOf class (q .line)) (rangeWord r) severity) × (s′ ≡ noteSt n s) → mem l′ n′ b s′ ≡ settleBy (memR t) missing class severity k (lookOf q) (mem l n b s)
+    → (n′ ≡ noteList n s (wordOf class (q .line)) (rangeWord r) severity) × (s′ ≡ noteSt n s) → mem l′ n′ b s′ ≡ settleBy (memR t) missing class severity k (asLook q) (mem l n b s)
 missed t b l l′ n n′ s s′ k class severity q r e h p = rw (e, p .0, p .1, h)
 
 -- a record that may wait: `kind` says of its call whether it is one, `find` where its label is
@@ -41,18 +41,18 @@ module _ (t : List ℕ) (kind : ℕ → Bool) (find : ℕ → Search) (class sev
   abbrev pub settled : Look → Mem → Mem
   settled u m = pick (both (ltb 0 (u .b)) (kind (u .call))) (settleBy (memR t) (find (u .b - 1)) class severity k u m) m
 
-  pub still : (q : Looked) (u : Look) (m : Mem) → u ≡ lookOf q → q .b ≡ 0 → m ≡ settled u m
+  pub still : (q : Looked) (u : Look) (m : Mem) → u ≡ asLook q → q .b ≡ 0 → m ≡ settled u m
   still q u m e h = rw (e, h)
 
-  pub other : (q : Looked) (u : Look) (m : Mem) → u ≡ lookOf q → (q .b ≡ 0 → ⊥) → kind (q .call) ≡ false → m ≡ settled u m
+  pub other : (q : Looked) (u : Look) (m : Mem) → u ≡ asLook q → (q .b ≡ 0 → ⊥) → kind (q .call) ≡ false → m ≡ settled u m
   other q u m e h f = rw (e, lt-ltb 0 (q .b) (omega arith), f)
 
-  pub settles : (q : Looked) (u : Look) (l l′ n b : List ℕ) (s : St) (v : ℕ) → u ≡ lookOf q → (q .b ≡ 0 → ⊥) → kind (q .call) ≡ true → find (q .b - 1) ≡ found v
+  pub settles : (q : Looked) (u : Look) (l l′ n b : List ℕ) (s : St) (v : ℕ) → u ≡ asLook q → (q .b ≡ 0 → ⊥) → kind (q .call) ≡ true → find (q .b - 1) ≡ found v
       → l′ ≡ onRec (settleArgs v) l s k → mem l′ n b s ≡ settled u (mem l n b s)
   settles q u l l′ n b s v e h f z p = rw (e, lt-ltb 0 (q .b) (omega arith), f, z, p)
 
-  pub loses : (q : Looked) (u : Look) (m m1 : Mem) → u ≡ lookOf q → (q .b ≡ 0 → ⊥) → kind (q .call) ≡ true → find (q .b - 1) ≡ missing
-      → m1 ≡ settleBy (memR t) missing class severity k (lookOf q) m → m1 ≡ settled u m
+  pub loses : (q : Looked) (u : Look) (m m1 : Mem) → u ≡ asLook q → (q .b ≡ 0 → ⊥) → kind (q .call) ≡ true → find (q .b - 1) ≡ missing
+      → m1 ≡ settleBy (memR t) missing class severity k (asLook q) m → m1 ≡ settled u m
   loses q u m m1 e h f z p = rw (e, lt-ltb 0 (q .b) (omega arith), f, z) p
 
 -- the passes over the records

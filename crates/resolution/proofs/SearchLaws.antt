@@ -17,8 +17,8 @@ use Rattle.recorder.specs.Ideal.{Search, missing, found}
 use Rattle.recorder.specs.Layout.{wordsOf}
 use Rattle.recorder.specs.Marks.{Mark, addrOf, dataOf}
 use Rattle.recorder.proofs.Bools.{both-left, both-right}
-use Rattle.closing.specs.MarkWords.{markWords, targetOf, startOf, findLabel, findDatum}
-use Rattle.closing.specs.Marked.{narrow, MarksIn}
+use Rattle.closing.specs.MarkWords.{markWords, targetFound, startFound, findLabel, findDatum}
+use Rattle.closing.specs.MarksIn.{narrow, MarksIn}
 use Rattle.closing.proofs.MarkSearch.{find-label-is, find-datum-is}
 
 -- no line has a label of more than 16 bits
@@ -36,19 +36,19 @@ data-wide (m ∷ ms) l r h =
     let b = ltb-true (m .label) 65536 (both-left (ltb (m .label) 65536) (narrow ms) r) in
     rw (data-wide ms l (both-right (ltb (m .label) 65536) (narrow ms) r) h, ne-eqb (m .label) l (λ z. omega arith))
 
-pub no-target : (w : List ℕ) (n l : ℕ) (rising : Bool) (ms : List Mark) → 65535 < l → MarksIn w n rising ms → Nowhere ≡ targetOf (addrOf ms l)
+pub no-target : (w : List ℕ) (n l : ℕ) (rising : Bool) (ms : List Mark) → 65535 < l → MarksIn w n rising ms → Nowhere ≡ targetFound (addrOf ms l)
 no-target w n l rising ms h k = rw (addr-wide ms l (k .labels) h)
 
-pub target-is : (w : List ℕ) (n l : ℕ) (rising : Bool) (x : Target) (ms : List Mark) → x ≡ targetOf (findLabel w n l rising) → MarksIn w n rising ms → x ≡ targetOf (addrOf ms l)
+pub target-is : (w : List ℕ) (n l : ℕ) (rising : Bool) (x : Target) (ms : List Mark) → x ≡ targetFound (findLabel w n l rising) → MarksIn w n rising ms → x ≡ targetFound (addrOf ms l)
 target-is w n l rising x ms e k =
-    e ∙ ap targetOf (find-label-is ms (replicate (length w - length (wordsOf markWords ms)) 0) w (k .words) l n rising (k .count) (k .sorted))
+    e ∙ ap targetFound (find-label-is ms (replicate (length w - length (wordsOf markWords ms)) 0) w (k .words) l n rising (k .count) (k .sorted))
 
-pub no-start : (w : List ℕ) (n l : ℕ) (rising : Bool) (ms : List Mark) → 65535 < l → MarksIn w n rising ms → NoData ≡ startOf (dataOf ms l)
+pub no-start : (w : List ℕ) (n l : ℕ) (rising : Bool) (ms : List Mark) → 65535 < l → MarksIn w n rising ms → NoData ≡ startFound (dataOf ms l)
 no-start w n l rising ms h k = rw (data-wide ms l (k .labels) h)
 
-pub start-is : (w : List ℕ) (n l : ℕ) (rising : Bool) (x : Start) (ms : List Mark) → x ≡ startOf (findDatum w n l rising) → MarksIn w n rising ms → x ≡ startOf (dataOf ms l)
+pub start-is : (w : List ℕ) (n l : ℕ) (rising : Bool) (x : Start) (ms : List Mark) → x ≡ startFound (findDatum w n l rising) → MarksIn w n rising ms → x ≡ startFound (dataOf ms l)
 start-is w n l rising x ms e k =
-    e ∙ ap startOf (find-datum-is ms (replicate (length w - length (wordsOf markWords ms)) 0) w (k .words) l n rising (k .count) (k .sorted))
+    e ∙ ap startFound (find-datum-is ms (replicate (length w - length (wordsOf markWords ms)) 0) w (k .words) l n rising (k .count) (k .sorted))
 
 -- what an answer says
 abbrev targetSearch : Target → Search
@@ -59,22 +59,22 @@ abbrev startSearch : Start → Search
 startSearch (From d) = found (d .0)
 startSearch NoData = missing
 
-target-search : (z : Search) → targetSearch (targetOf z) ≡ z
+target-search : (z : Search) → targetSearch (targetFound z) ≡ z
 target-search missing = refl
 target-search (found a) = refl
 
-start-search : (z : Search) → startSearch (startOf z) ≡ z
+start-search : (z : Search) → startSearch (startFound z) ≡ z
 start-search missing = refl
 start-search (found d) = refl
 
-pub target-found : (z : Search) (o : Target) (a : Addr) → o ≡ targetOf z → o ≡ At a → z ≡ found (a .0)
+pub target-found : (z : Search) (o : Target) (a : Addr) → o ≡ targetFound z → o ≡ At a → z ≡ found (a .0)
 target-found z o a e h = inv (target-search z) ∙ ap targetSearch (inv e ∙ h)
 
-pub target-missing : (z : Search) (o : Target) → o ≡ targetOf z → o ≡ Nowhere → z ≡ missing
+pub target-missing : (z : Search) (o : Target) → o ≡ targetFound z → o ≡ Nowhere → z ≡ missing
 target-missing z o e h = inv (target-search z) ∙ ap targetSearch (inv e ∙ h)
 
-pub start-found : (z : Search) (o : Start) (d : DatumIndex) → o ≡ startOf z → o ≡ From d → z ≡ found (d .0)
+pub start-found : (z : Search) (o : Start) (d : DatumIndex) → o ≡ startFound z → o ≡ From d → z ≡ found (d .0)
 start-found z o d e h = inv (start-search z) ∙ ap startSearch (inv e ∙ h)
 
-pub start-missing : (z : Search) (o : Start) → o ≡ startOf z → o ≡ NoData → z ≡ missing
+pub start-missing : (z : Search) (o : Start) → o ≡ startFound z → o ≡ NoData → z ≡ missing
 start-missing z o e h = inv (start-search z) ∙ ap startSearch (inv e ∙ h)

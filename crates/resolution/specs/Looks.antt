@@ -2,5 +2,5 @@
 use Rattle.recorder.specs.declared.codegen.Looked.{Looked}
 use Rattle.recorder.specs.Recorder.{Look}
 
-abbrev pub lookOf : Looked → Look
-lookOf q = record { call = q .call; line = q .line; b = q .b; c = q .c }
+abbrev pub asLook : Looked → Look
+asLook q = record { call = q .call; line = q .line; b = q .b; c = q .c }

@@ -14,11 +14,11 @@ ghost use Rattle.recorder.specs.Word.{either};
 ghost use Rattle.recorder.specs.Ideal.{missing};
 ghost use Rattle.recorder.specs.Recorder.{unpack};
 ghost use Rattle.recorder.specs.Marks.{Mark, addrOf, dataOf};
-ghost use Rattle.closing.specs.MarkWords.{targetOf, startOf};
-ghost use Rattle.closing.specs.Marked.{MarksIn};
+ghost use Rattle.closing.specs.MarkWords.{targetFound, startFound};
+ghost use Rattle.closing.specs.MarksIn.{MarksIn};
 ghost use Rattle.recorder.specs.Mem.{Mem, mem, memR, lookAt};
 ghost use Rattle.rules.specs.Program.{Lines, settleBy, settleJump, settleRestore, resolveLabels, resolveDatumIndices, closeUp};
-ghost use Rattle.resolution.specs.Looks.{lookOf};
+ghost use Rattle.resolution.specs.Looks.{asLook};
 
 // The range that a waiting record keeps as one number.
 fn unpacked(c: u32) -> Range
@@ -41,7 +41,7 @@ fn is_jump(call: u32) -> bool
 
 // A line's label has 16 bits: no line has a larger one.
 fn target_of(work: &[u32], n: usize, label: u32, rising: bool) -> Target
-    ensures { λ x. ⌜ ((ms : List Mark) → MarksIn (now (work .entry)) n rising ms → x ≡ targetOf (addrOf ms label)) ⌝ }
+    ensures { λ x. ⌜ ((ms : List Mark) → MarksIn (now (work .entry)) n rising ms → x ≡ targetFound (addrOf ms label)) ⌝ }
 {
     if 65535 < label {
         return Target::Nowhere;
@@ -51,7 +51,7 @@ fn target_of(work: &[u32], n: usize, label: u32, rising: bool) -> Target
 }
 
 fn start_of(work: &[u32], n: usize, label: u32, rising: bool) -> Start
-    ensures { λ x. ⌜ ((ms : List Mark) → MarksIn (now (work .entry)) n rising ms → x ≡ startOf (dataOf ms label)) ⌝ }
+    ensures { λ x. ⌜ ((ms : List Mark) → MarksIn (now (work .entry)) n rising ms → x ≡ startFound (dataOf ms label)) ⌝ }
 {
     if 65535 < label {
         return Start::NoData;
@@ -70,9 +70,9 @@ fn miss(
     class: u8,
     severity: u32,
 ) -> St
-    ensures { λ x. ⌜ ((t b : List ℕ) → mem (now (list .exit)) (now (notes .exit)) b x ≡ settleBy (memR t) missing class severity k (lookOf q) (mem (now (list .entry)) (now (notes .entry)) b st)) ⌝ }
+    ensures { λ x. ⌜ ((t b : List ℕ) → mem (now (list .exit)) (now (notes .exit)) b x ≡ settleBy (memR t) missing class severity k (asLook q) (mem (now (list .entry)) (now (notes .entry)) b st)) ⌝ }
 {
-    recorder::codegen::unsettle(list, st, Addr(k));
+    recorder::codegen::drop_label(list, st, Addr(k));
     let r = unpacked(q.c);
     recorder::codegen::note_at(notes, st, q.line, class, r, severity)
 }

@@ -245,25 +245,25 @@ module _ (E : List Entry) (X Y : ℕ → Type 0) (rs : List Rec) (tr : Trace E (
     body-behind : (k : ℕ) (h : k < length rs) (e : recAt rs k .call ≡ 26) → k < body-at k h e .at
     body-behind k h e = let b = body-at k h e in omega (arith, ahead-at 0 rs k h ahead e, b .place)
 
-    pub orderly : (edges : List ℕ) → All X edges → Orderly edges rs ps
-    orderly edges a = record {
-      statements = all-map X (λ (k : ℕ). (k < length rs) × (pileAt ps k ≡ [])) edges empty-pile a;
+    pub orderly : (addrs : List ℕ) → All X addrs → Orderly addrs rs ps
+    orderly addrs a = record {
+      statements = all-map X (λ (k : ℕ). (k < length rs) × (pileAt ps k ≡ [])) addrs empty-pile a;
       bodyBegins = λ k h e. (omega (arith, body-behind k h e, body-at k h e .within), rw (add-one k) (piles-empty E rs [] (suc k) (trace-quiet tr k h (rw e refl))));
       bodyCloses = λ k h e. let b = body-at k h e in rw (body-place (recAt rs k .c) b) (body-behind k h e, b .within, b .closes);
       bodyEnds = λ k h e. let b = body-at k h e in rw (body-place (recAt rs k .c) b) (piles-at E rs [] (num ∷ []) (b .at) (b .within) (b .pile));
       onTargets = λ k h. all-map X (λ (v : ℕ). (v < length rs) × (pileAt ps v ≡ [])) (targets (recAt rs k)) empty-pile (trace-each tr k h .targets);
     }
 
-    pub exactly-one : (edges : List ℕ) → 0 < length rs → All X edges → ExactlyOne edges E rs
-    exactly-one edges n a = record { piles = ps; fit = fits n; orderly = orderly edges a; only = only n }
+    pub exactly-one : (addrs : List ℕ) → 0 < length rs → All X addrs → ExactlyOne addrs E rs
+    exactly-one addrs n a = record { piles = ps; fit = fits n; orderly = orderly addrs a; only = only n }
 
 -- End
 end-step : (E : List Entry) (l : ℕ) → step E (endRec l) [] ≡ given []
 unfolding step wantsOf taken operands
 end-step E l = refl
 
-pub finished-piles : (E : List Entry) (X Y : ℕ → Type 0) (rs : List Rec) (l : ℕ) (edges : List ℕ) → Sound E X Y rs → All X edges → ExactlyOne edges E (rs ++ (endRec l ∷ []))
-finished-piles E X Y rs l edges s a = exactly-one E X Y us tr good bodies ahead edges (omega (arith, long)) a
+pub finished-piles : (E : List Entry) (X Y : ℕ → Type 0) (rs : List Rec) (l : ℕ) (addrs : List ℕ) → Sound E X Y rs → All X addrs → ExactlyOne addrs E (rs ++ (endRec l ∷ []))
+finished-piles E X Y rs l addrs s a = exactly-one E X Y us tr good bodies ahead addrs (omega (arith, long)) a
   where
     us : List Rec
     us = rs ++ (endRec l ∷ [])

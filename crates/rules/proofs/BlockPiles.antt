@@ -11,11 +11,12 @@ use Rattle.recorder.specs.Ideal.{Rec, rec, noRec, Entry, Ideal, change, withA, 
 use Rattle.recorder.specs.Closing.{rulesR}
 use Rattle.sheet.specs.Tree.{Opt, absent, given, Expr, FieldSpec, Stmt, rem, op₀, op₁, op₂, op₃, draw, set, dataList, def, dim, field, for, go, ifThen, ifElse, input, assign, load, locate, next-of, on, open-file, print, read, restore, swap, system, while, write, Stmts, end, then}
 use Rattle.rules.specs.declared.types.«Type».the-variants.{Real}
-use Rattle.rules.specs.Expr.{funcName, realSym, compileTyped}
+use Rattle.rules.specs.Expr.{optRealSym, realSym, compileTyped}
 use Rattle.rules.specs.Stmt.{compileDef, endDef, compileWhile, ifJump, elseJump, endHere, compileStmt, compileStmts}
 use Rattle.rules.specs.Missing.{All, Present, WholeExpr, WholeStmt, WholeStmts}
 use Rattle.rules.specs.Piles.{num, Pile, taken, wantsOf, step}
-use Rattle.rules.specs.Demand.{stmtEdges, stmtsEdges}
+use Rattle.rules.specs.Each.{eachStmt, eachStmts}
+use Rattle.rules.specs.Demand.{around}
 use Rattle.rules.proofs.PileLaws.{Flow, Side, Never, Plain, Ahead, ahead-append, flow-ahead, plain-one, plain-flow, flow-append, flow-map, flow-run, all-map, all-append, run, pileIn}
 use Rattle.rules.proofs.Grown.{Code, seq, put, stay, fails, void, with-ok, longer, patched, change-at}
 use Rattle.rules.proofs.ExprPiles.{Few, real-code, name-code}
@@ -82,7 +83,7 @@ module _ (E : List Entry) where
       record {
         flow = flow-append (plain-flow E (Empty E B ys) (Body E B ys) xs [] (num ∷ []) a)
             (Flow.go (while-step l r B b c) (record { quiet = λ q. refl; fixed = (first-empty E B ys, tt); body = λ q. absurd (omega arith); on = λ q. absurd (omega arith) }) Flow.done);
-        edges = tt;
+        addrs = tt;
         ahead = ahead-append B (B + length xs) xs (rec 25 l r B b c ∷ []) refl (flow-ahead B a) (λ q. absurd (omega arith), tt);
       }
 
@@ -107,7 +108,7 @@ module _ (E : List Entry) where
       let body : Plain E ys [] [] = flow-append a (end-step m r) in
       record {
         flow = Flow.go (def-step l r n p T) (side T h) (plain-flow E (Empty E B (q ∷ ys)) (Body E B (q ∷ ys)) ys [] [] body);
-        edges = tt;
+        addrs = tt;
         ahead = (λ e. omega arith, flow-ahead (suc B) body);
       }
     where
@@ -167,7 +168,7 @@ module _ (E : List Entry) where
       record {
         flow = flow-append (test-flow (Empty E B (xs ++ ct)) (Body E B (xs ++ ct)) l r T ce at a)
             (flow-map (λ U. empty-right E B (B + length ce + 1) xs ct U off ru) (λ U. body-right E B (B + length ce + 1) xs ct U off ru) (b .flow));
-        edges = all-map (Empty E (B + length ce + 1) ct) (Empty E B (xs ++ ct)) ms (λ U. empty-right E B (B + length ce + 1) xs ct U off ru) (b .edges);
+        addrs = all-map (Empty E (B + length ce + 1) ct) (Empty E B (xs ++ ct)) ms (λ U. empty-right E B (B + length ce + 1) xs ct U off ru) (b .addrs);
         ahead = ahead-append B (B + length ce + 1) xs ct off (test-ahead B l r T ce a) (b .ahead);
       }
 
@@ -179,7 +180,7 @@ module _ (E : List Entry) where
       let Y = Body E B whole in
       record {
         flow = flow-append (flow-append (test-flow X Y l r T₁ ce at₁ a) (flow-append (flow-map in-then body-then (b .flow)) (over-flow X Y m r T₂ at₂))) (flow-map in-else body-else (c .flow));
-        edges = all-append X ms ns (all-map (Empty E C ct) X ms in-then (b .edges)) (all-map (Empty E T₁ cf) X ns in-else (c .edges));
+        addrs = all-append X ms ns (all-map (Empty E C ct) X ms in-then (b .addrs)) (all-map (Empty E T₁ cf) X ns in-else (c .addrs));
         ahead = ahead-append B T₁ (xs ++ ys) cf offy (ahead-append B C xs ys offx (test-ahead B l r T₁ ce a)
             (ahead-append C (C + length ct) ct (rec 20 m r T₂ 0 0 ∷ []) refl (b .ahead) (λ q. absurd (omega arith), tt))) (c .ahead);
       }
@@ -311,7 +312,7 @@ module _ (E : List Entry) (few : Few E) (t : List ℕ) (base : ℕ) where
   unfolding compileDef
   def-code r absent p e i =
       void E 0 (⊥ × Present p × WholeExpr e) (Block i []) (λ w. w .0)
-      (seq E {d₁ = 1} {d₂ = 0} {W₁ = Unit {0}} {W = WholeExpr e} {A = λ xs. xs ≡ []} {B = One} {C = λ xs. Unit {0}} (name-code E few t base p i) (pushed E few t base Real tt e (funcName R t base p i .state)) (λ w. tt) (λ w. w) (λ xs ys u v. tt))
+      (seq E {d₁ = 1} {d₂ = 0} {W₁ = Unit {0}} {W = WholeExpr e} {A = λ xs. xs ≡ []} {B = One} {C = λ xs. Unit {0}} (name-code E few t base p i) (pushed E few t base Real tt e (optRealSym R t base p i .state)) (λ w. tt) (λ w. w) (λ xs ys u v. tt))
   def-code r (given nr) absent e i =
       void E 0 (Unit {0} × ⊥ × WholeExpr e) (Block i []) (λ w. w .1)
       (seq E {d₁ = 1} {d₂ = 0} {W₁ = Unit {0}} {W = WholeExpr e} {A = λ xs. xs ≡ []} {B = One} {C = λ xs. Unit {0}} (real-code E few t base nr i) (pushed E few t base Real tt e (realSym R t base nr i .state)) (λ w. tt) (λ w. w) (λ xs ys u v. tt))
@@ -457,7 +458,7 @@ module _ (E : List Entry) (few : Few E) (t : List ℕ) (base : ℕ) where
   mutual
     unfolding compileStmt compileStmts
 
-    pub stmt-code : (x : Stmt) (i : Ideal) → Code E 0 i (compileStmt R t base x i) (WholeStmt x × FormedStmt x) (Block i (stmtEdges t base x i))
+    pub stmt-code : (x : Stmt) (i : Ideal) → Code E 0 i (compileStmt R t base x i) (WholeStmt x × FormedStmt x) (Block i (eachStmt t (around t) base x i))
     stmt-code (rem r) i = flat-stmt (StmtPiles.rem-code E few t base r i) (λ w. tt)
     stmt-code (op₀ k r) i = flat-stmt (OpPiles.op0 E few t base k r i) (λ w. w .1)
     stmt-code (op₁ k r a) i = flat-stmt (OpPiles.op1 E few t base k r a i) (λ w. (w .0, w .1))
@@ -479,14 +480,14 @@ module _ (E : List Entry) (few : Few E) (t : List ℕ) (base : ℕ) where
     stmt-code (go r sub g) i = flat-stmt (StmtPiles.go-code E few t base r sub g i) (λ w. tt)
     stmt-code (ifThen r e xs) i =
         let u = compileTyped R t base Real e i in
-        stmt-of (stmtsEdges t base xs (ifJump R t base r u))
-        (under (then-of-if r unknown i u (compileStmts R t base xs (ifJump R t base r u)) (stmtsEdges t base xs (ifJump R t base r u)) (pushed E few t base Real tt e i) (stmts-code xs (ifJump R t base r u))) (λ w. (w .0 .0, (w .0 .1, w .1))))
+        stmt-of (eachStmts t (around t) base xs (ifJump R t base r u))
+        (under (then-of-if r unknown i u (compileStmts R t base xs (ifJump R t base r u)) (eachStmts t (around t) base xs (ifJump R t base r u)) (pushed E few t base Real tt e i) (stmts-code xs (ifJump R t base r u))) (λ w. (w .0 .0, (w .0 .1, w .1))))
     stmt-code (ifElse r e xs ys) i =
         let u = compileTyped R t base Real e i in
         let v = compileStmts R t base xs (ifJump R t base r u) in
         let g = endHere R t base (length (u .records)) (elseJump R t base r v) in
-        stmt-of (stmtsEdges t base xs (ifJump R t base r u) ++ stmtsEdges t base ys g)
-        (under (else-of r unknown i u v (compileStmts R t base ys g) (stmtsEdges t base xs (ifJump R t base r u)) (stmtsEdges t base ys g) (pushed E few t base Real tt e i) (stmts-code xs (ifJump R t base r u)) (stmts-code ys g))
+        stmt-of (eachStmts t (around t) base xs (ifJump R t base r u) ++ eachStmts t (around t) base ys g)
+        (under (else-of r unknown i u v (compileStmts R t base ys g) (eachStmts t (around t) base xs (ifJump R t base r u)) (eachStmts t (around t) base ys g) (pushed E few t base Real tt e i) (stmts-code xs (ifJump R t base r u)) (stmts-code ys g))
         (λ w. (w .0 .0, (w .0 .1, w .1 .0), (w .0 .2, w .1 .1))))
     stmt-code (input r src es) i = flat-stmt (StmtPiles.input-code E few t base r src es i) (λ w. ((w .0 .1, w .1), w .0 .0))
     stmt-code (assign r a b) i = flat-stmt (StmtPiles.let-code E few t base r a b i) (λ w. ((w .0 .0, w .1), w .0 .1))
@@ -503,8 +504,8 @@ module _ (E : List Entry) (few : Few E) (t : List ℕ) (base : ℕ) where
     stmt-code (while r e) i = stmt-of [] (under (while-code r e i) (λ w. w .0))
     stmt-code (write r f ds) i = flat-stmt (StmtPiles.write-code E few t base r f ds i) (λ w. w .0)
 
-    pub stmts-code : (xs : Stmts) (i : Ideal) → Code E 0 i (compileStmts R t base xs i) (WholeStmts xs × FormedStmts xs) (Block i (stmtsEdges t base xs i))
+    pub stmts-code : (xs : Stmts) (i : Ideal) → Code E 0 i (compileStmts R t base xs i) (WholeStmts xs × FormedStmts xs) (Block i (eachStmts t (around t) base xs i))
     stmts-code end i = stay E i (Unit {0} × Unit {0}) (Block i []) (λ w. good-nil E (length (i .records)))
     stmts-code (then x xs) i =
-        under (then-of i (compileStmt R t base x i) (compileStmts R t base xs (compileStmt R t base x i)) (stmtEdges t base x i) (stmtsEdges t base xs (compileStmt R t base x i)) (stmt-code x i) (stmts-code xs (compileStmt R t base x i)))
+        under (then-of i (compileStmt R t base x i) (compileStmts R t base xs (compileStmt R t base x i)) (eachStmt t (around t) base x i) (eachStmts t (around t) base xs (compileStmt R t base x i)) (stmt-code x i) (stmts-code xs (compileStmt R t base x i)))
         (λ w. ((w .0 .0, w .1 .0), (w .0 .1, w .1 .1)))

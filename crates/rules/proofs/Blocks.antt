@@ -104,14 +104,14 @@ module _ (E : List Entry) where
   pub last-empty : (B C : ℕ) (xs : List Rec) → C ≡ B + length xs → run E xs [] ≡ given [] → Empty B xs C
   last-empty B C xs h r = record { at = length xs; place = h; within = omega arith; pile = pile-end xs [] [] r }
 
-  -- a block at B with the edges of its statements
+  -- a block at B with where its statements begin and end
   pub record Good (B : ℕ) (ms : List ℕ) (xs : List Rec) : Type 0 where
     pub flow : Flow E (Empty B xs) (Body B xs) xs [] []
-    pub edges : All (Empty B xs) ms
+    pub addrs : All (Empty B xs) ms
     pub ahead : Ahead B xs
 
   pub good-nil : (B : ℕ) → Good B [] []
-  good-nil B = record { flow = Flow.done; edges = tt; ahead = tt }
+  good-nil B = record { flow = Flow.done; addrs = tt; ahead = tt }
 
   pub good-append : (B C : ℕ) (ms ns : List ℕ) (xs ys : List Rec) → C ≡ B + length xs → Good B ms xs → Good C ns ys → Good B (ms ++ ns) (xs ++ ys)
   good-append B C ms ns xs ys h a b =
@@ -119,17 +119,17 @@ module _ (E : List Entry) where
       record {
         flow = flow-append (flow-map (empty-left B xs ys) (body-left B xs ys) (a .flow))
             (flow-map (λ T. empty-right B C xs ys T h r) (λ T. body-right B C xs ys T h r) (b .flow));
-        edges = all-append (Empty B (xs ++ ys)) ms ns (all-map (Empty B xs) (Empty B (xs ++ ys)) ms (empty-left B xs ys) (a .edges))
-            (all-map (Empty C ys) (Empty B (xs ++ ys)) ns (λ T. empty-right B C xs ys T h r) (b .edges));
+        addrs = all-append (Empty B (xs ++ ys)) ms ns (all-map (Empty B xs) (Empty B (xs ++ ys)) ms (empty-left B xs ys) (a .addrs))
+            (all-map (Empty C ys) (Empty B (xs ++ ys)) ns (λ T. empty-right B C xs ys T h r) (b .addrs));
         ahead = ahead-append B C xs ys h (a .ahead) (b .ahead);
       }
 
   pub good-plain : (B : ℕ) (xs : List Rec) → Plain E xs [] [] → Good B [] xs
-  good-plain B xs a = record { flow = plain-flow E (Empty B xs) (Body B xs) xs [] [] a; edges = tt; ahead = flow-ahead B a }
+  good-plain B xs a = record { flow = plain-flow E (Empty B xs) (Body B xs) xs [] [] a; addrs = tt; ahead = flow-ahead B a }
 
   -- a statement: where it begins and ends is empty
   pub good-stmt : (B C : ℕ) (ms : List ℕ) (xs : List Rec) → C ≡ B + length xs → Good B ms xs → Good B (B ∷ C ∷ ms) xs
-  good-stmt B C ms xs h a = record { flow = a .flow; edges = (first-empty B xs, (last-empty B C xs h (flow-run (a .flow)), a .edges)); ahead = a .ahead }
+  good-stmt B C ms xs h a = record { flow = a .flow; addrs = (first-empty B xs, (last-empty B C xs h (flow-run (a .flow)), a .addrs)); ahead = a .ahead }
 
 -- a record behind which the pile is empty, and that has no targets and is no ON
 abbrev pub soloCall : ℕ → Bool

@@ -11,7 +11,7 @@ use mathlib.Core.Logic.{_⊎_, _≢_, inl, inr}
 use native.Mathlib.Omega.{arith}
 use Rattle.recorder.specs.Word.{pick, choose, both, either}
 use Rattle.recorder.specs.Recorder.{Recorder, unpack}
-use Rattle.recorder.specs.Ideal.{Rec, rec, noRec, Note, noteOf, Entry, Ideal, change, settled, unsettled, withB, lookOf, Search, missing, found}
+use Rattle.recorder.specs.Ideal.{Rec, rec, noRec, Note, noteOf, Entry, Ideal, change, settled, unlabelled, withB, lookOf, Search, missing, found}
 use Rattle.recorder.specs.Marks.{Mark, addrOf, dataOf, orElse}
 use Rattle.recorder.specs.Closing.{rulesR, isWend, isWhile, closes, opened, endFrom, endAt, closeWhiles, openNote, openNotes}
 use Rattle.recorder.proofs.Bools.{both-left, both-right}
@@ -38,7 +38,7 @@ pub record Pass (i f : Ideal) (rs : List Rec) (G : Type 0) : Type 0 where
 
 abbrev pub settleRec : Search → Rec → Rec
 settleRec (found v) r = settled v r
-settleRec missing r = unsettled r
+settleRec missing r = unlabelled r
 
 abbrev pub jumpTo : List Mark → Rec → Rec
 jumpTo ms r = pick (isPendingJump (lookOf r)) (settleRec (addrOf ms (r .b - 1)) r) r
@@ -86,7 +86,7 @@ module _ (t : List ℕ) where
     ok = λ n q m. (v, refl);
   }
   settle-pass true missing class severity r front back k i e h = record {
-    records = change-there unsettled (i .records) front back r k e h;
+    records = change-there unlabelled (i .records) front back r k e h;
     fresh = noteOf class (r .line) (unpack (r .c)) severity ∷ [];
     notes = refl;
     entries = refl;

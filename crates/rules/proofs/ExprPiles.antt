@@ -18,10 +18,10 @@ use Rattle.rules.specs.declared.types.«Type».the-variants.{Integer, Re
 use Rattle.rules.specs.Types.{matchesType, exactMatches, sigilUnit, sigilType}
 use Rattle.rules.specs.Name.{textPlace, readName}
 use Rattle.rules.specs.Tables.{Signature, signatures, signatureOf, realOfReal, wanted, everyReal, tab, spc}
-use Rattle.rules.specs.Expr.{Out, compileSym, checkType, checkReal, realSym, varNode, textNode, numberNode, arityNotes, funcNotes, funcNode, funcName, userCall, likeNode, arithNode, binaryNode, unaryNode, indexNode, isAdd, quotedStart, quotedLength, compileExpr, compileArgs, compileTyped}
+use Rattle.rules.specs.Expr.{Out, compileSym, checkType, checkReal, realSym, varNode, textNode, numberNode, arityNotes, funcNotes, funcNode, optRealSym, userCall, likeNode, arithNode, binaryNode, unaryNode, indexNode, isAdd, quotedStart, quotedLength, compileExpr, compileArgs, compileTyped}
 use Rattle.rules.specs.Missing.{All, Present, WholeExpr, WholeExprs}
 use Rattle.rules.specs.Piles.{num, txt, Pile, Want, fits, taken, symbolType, wantOf, kindOf, numbers, arguments, wantsOf, step}
-use Rattle.rules.proofs.PileLaws.{Flow, Plain, plain-one, flow-append}
+use Rattle.rules.proofs.PileLaws.{Flow, Plain, plain-one, flow-append, Turns}
 use Rattle.rules.proofs.NamePiles.{Numbered, type-at, found-name, isName}
 use Rattle.rules.proofs.Grown.{Code, seq, put, stay, emits, fails, warns, void, with-ok}
 
@@ -212,17 +212,13 @@ module _ (E : List Entry) (few : Few E) (t : List ℕ) (base : ℕ) where
     pub proper : Proper x
     pub flow : (P : Pile) → Plain E xs P (kindOf x ∷ P)
 
-  -- from one pile to another
-  abbrev pub Turns : (Pile → Pile) → (Pile → Pile) → List Rec → Type 0
-  Turns f g xs = (P : Pile) → Plain E xs (f P) (g P)
-
   abbrev pub Same : Pile → Pile
   Same P = P
 
-  pub then-nothing : (f g : Pile → Pile) (xs ys : List Rec) → Turns f g xs → ys ≡ [] → Turns f g (xs ++ ys)
+  pub then-nothing : (f g : Pile → Pile) (xs ys : List Rec) → Turns E f g xs → ys ≡ [] → Turns E f g (xs ++ ys)
   then-nothing f g xs ys a e P = rw (e, append-nil xs) (a P)
 
-  pub nothing-then : (f g : Pile → Pile) (xs ys : List Rec) → xs ≡ [] → Turns f g ys → Turns f g (xs ++ ys)
+  pub nothing-then : (f g : Pile → Pile) (xs ys : List Rec) → xs ≡ [] → Turns E f g ys → Turns E f g (xs ++ ys)
   nothing-then f g xs ys e a P = rw e (a P)
 
   -- a variable
@@ -287,7 +283,7 @@ module _ (E : List Entry) (few : Few E) (t : List ℕ) (base : ℕ) where
 
   -- an expression of which a kind is wanted
   abbrev pub Wanted : Ty → List Rec → Type 0
-  Wanted x xs = Proper x → Turns Same (λ P. kindOf x ∷ P) xs
+  Wanted x xs = Proper x → Turns E Same (λ P. kindOf x ∷ P) xs
 
   wanted-ok : (x want : Ty) (xs ys : List Rec) → Typed x xs → Matched x want ys → Wanted want (xs ++ ys)
   wanted-ok x want xs ys a b p P = rw (b .0, append-nil xs, ← same-kind x want (a .proper) p (b .1)) (a .flow P)
@@ -314,7 +310,7 @@ module _ (E : List Entry) (few : Few E) (t : List ℕ) (base : ℕ) where
       {B = λ xs. (xs ≡ []) × (exactMatches (compileSym R t base r i .ty) Real ≡ true)} {C = Nothing}
       (sym-code r i) (real-check r (compileSym R t base r i .ty) (compileSym R t base r i .state)) (λ w. w) (λ w. w) (λ xs ys a b. rw (a .none, b .0))
 
-  pub name-code : (f : Opt Range) (i : Ideal) → Code E 1 i (funcName R t base f i .state) (Unit {0}) Nothing
+  pub name-code : (f : Opt Range) (i : Ideal) → Code E 1 i (optRealSym R t base f i .state) (Unit {0}) Nothing
   name-code absent i = with-ok E {A = Nothing} 1 (omega arith) (stay E i (Unit {0}) Nothing (λ w. refl)) (λ w. w) (λ w xs a. a)
   name-code (given r) i = real-code r i
 
@@ -328,36 +324,36 @@ module _ (E : List Entry) (few : Few E) (t : List ℕ) (base : ℕ) where
   user-of {W} (given fr) r n i j a =
       with-ok E {W = W} {A = Typed Real} 0 (omega arith) (put E {A = Wanted Real} {C = Typed Real} a (omega arith) (rec 12 (j .line) r n 0 0) (user-ok (j .line) r n)) (λ w. w .1) (λ w xs c. c)
 
-  user-args : {W : Type 0} (f : Opt Range) (r : Range) (i : Ideal) (p : Out Ideal) → Code E 0 (funcName R t base f i .state) (p .state) W (Typed (p .ty))
+  user-args : {W : Type 0} (f : Opt Range) (r : Range) (i : Ideal) (p : Out Ideal) → Code E 0 (optRealSym R t base f i .state) (p .state) W (Typed (p .ty))
       → Code E 1 i (checkType R t base Real r (p .ty) (p .state)) W (Wanted Real)
   user-args {W} f r i p a =
-      seq E {d₁ = 1} {d₂ = 0} {W₁ = Unit {0}} {W₂ = W} {W = W} {A = Nothing} {B = Wanted Real} {C = Wanted Real} (name-code f i) (wanted-of {W = W} 0 Real r (funcName R t base f i .state) p a)
+      seq E {d₁ = 1} {d₂ = 0} {W₁ = Unit {0}} {W₂ = W} {W = W} {A = Nothing} {B = Wanted Real} {C = Wanted Real} (name-code f i) (wanted-of {W = W} 0 Real r (optRealSym R t base f i .state) p a)
       (λ w. tt) (λ w. w) (λ xs ys u v q. nothing-then Same (λ P. num ∷ P) xs ys u (v q))
 
   -- two sides
   abbrev Joined : Ty → Ty → Ty → List Rec → Type 0
-  Joined x y z xs = Proper x → Proper y → Proper z × Turns (λ P. kindOf y ∷ kindOf x ∷ P) (λ P. kindOf z ∷ P) xs
+  Joined x y z xs = Proper x → Proper y → Proper z × Turns E (λ P. kindOf y ∷ kindOf x ∷ P) (λ P. kindOf z ∷ P) xs
 
-  num-step : (l : ℕ) (r : Range) (k : ℕ) → Turns (λ P. num ∷ num ∷ P) (λ P. num ∷ P) (rec 14 l r k 0 0 ∷ [])
+  num-step : (l : ℕ) (r : Range) (k : ℕ) → Turns E (λ P. num ∷ num ∷ P) (λ P. num ∷ P) (rec 14 l r k 0 0 ∷ [])
   unfolding step wantsOf taken
   num-step l r k P = plain-one E (rec 14 l r k 0 0) (num ∷ num ∷ P) (num ∷ P) refl refl
 
-  txt-step : (l : ℕ) (r : Range) (k : ℕ) → Turns (λ P. txt ∷ txt ∷ P) (λ P. pick (eqb k 6) txt num ∷ P) (rec 15 l r k 0 0 ∷ [])
+  txt-step : (l : ℕ) (r : Range) (k : ℕ) → Turns E (λ P. txt ∷ txt ∷ P) (λ P. pick (eqb k 6) txt num ∷ P) (rec 15 l r k 0 0 ∷ [])
   unfolding step wantsOf taken
   txt-step l r k P = plain-one E (rec 15 l r k 0 0) (txt ∷ txt ∷ P) (pick (eqb k 6) txt num ∷ P) refl refl
 
-  like-num : (k l : ℕ) (r : Range) → Proper (pick (isAdd k) Real Real) × Turns (λ P. num ∷ num ∷ P) (λ P. kindOf (pick (isAdd k) Real Real) ∷ P) (rec 14 l r k 0 0 ∷ [])
+  like-num : (k l : ℕ) (r : Range) → Proper (pick (isAdd k) Real Real) × Turns E (λ P. num ∷ num ∷ P) (λ P. kindOf (pick (isAdd k) Real Real) ∷ P) (rec 14 l r k 0 0 ∷ [])
   like-num k l r = go (isAdd k)
     where
-      go : (b : Bool) → Proper (pick b Real Real) × Turns (λ P. num ∷ num ∷ P) (λ P. kindOf (pick b Real Real) ∷ P) (rec 14 l r k 0 0 ∷ [])
+      go : (b : Bool) → Proper (pick b Real Real) × Turns E (λ P. num ∷ num ∷ P) (λ P. kindOf (pick b Real Real) ∷ P) (rec 14 l r k 0 0 ∷ [])
       go true = (tt, num-step l r k)
       go false = (tt, num-step l r k)
 
-  like-txt : (k l : ℕ) (r : Range) → Proper (pick (isAdd k) String Real) × Turns (λ P. txt ∷ txt ∷ P) (λ P. kindOf (pick (isAdd k) String Real) ∷ P) (rec 15 l r k 0 0 ∷ [])
+  like-txt : (k l : ℕ) (r : Range) → Proper (pick (isAdd k) String Real) × Turns E (λ P. txt ∷ txt ∷ P) (λ P. kindOf (pick (isAdd k) String Real) ∷ P) (rec 15 l r k 0 0 ∷ [])
   like-txt k l r = go (isAdd k) (txt-step l r k)
     where
-      go : (b : Bool) → Turns (λ P. txt ∷ txt ∷ P) (λ P. pick b txt num ∷ P) (rec 15 l r k 0 0 ∷ [])
-          → Proper (pick b String Real) × Turns (λ P. txt ∷ txt ∷ P) (λ P. kindOf (pick b String Real) ∷ P) (rec 15 l r k 0 0 ∷ [])
+      go : (b : Bool) → Turns E (λ P. txt ∷ txt ∷ P) (λ P. pick b txt num ∷ P) (rec 15 l r k 0 0 ∷ [])
+          → Proper (pick b String Real) × Turns E (λ P. txt ∷ txt ∷ P) (λ P. kindOf (pick b String Real) ∷ P) (rec 15 l r k 0 0 ∷ [])
       go true s = (tt, s)
       go false s = (tt, s)
 
@@ -427,7 +423,7 @@ module _ (E : List Entry) (few : Few E) (t : List ℕ) (base : ℕ) where
 
   -- arguments
   abbrev pub Args : (ℕ → Ty) → ℕ → ℕ → List Rec → Type 0
-  Args want i n xs = Clear want i n → Turns Same (argPile want i n) xs
+  Args want i n xs = Clear want i n → Turns E Same (argPile want i n) xs
 
   args-of : {W₁ W₂ : Type 0} (want : ℕ → Ty) (m n : ℕ) (i f g : Ideal) → Code E 0 i f W₁ (Wanted (want m)) → Code E 0 f g W₂ (Args want (suc m) n) → Code E 0 i g (W₁ × W₂) (Args want m (suc n))
   args-of {W₁} {W₂} want m n i f g a b =
@@ -485,7 +481,7 @@ module _ (E : List Entry) (few : Few E) (t : List ℕ) (base : ℕ) where
           seq E {d₁ = 0} {d₂ = 0} {W₁ = Unit {0}} {W₂ = Unit {0}} {A = λ xs. ⊥} {B = Counted k n} (fails E i 12 (i .line) fr 0 (Unit {0}) (λ xs. ⊥)) (arity-code k n r (R .note i 12 fr 1)) (λ w. w) (λ w. w) (λ xs ys a b. absurd a)
       go false = arity-code k n r i
 
-  func-ok : (l : ℕ) (r : Range) (k n : ℕ) (xs : List Rec) → (n ≤ length (signatureOf k .args)) × Turns Same (argPile (wanted (signatureOf k .args)) 0 n) xs → Typed (signatureOf k .result) (xs ++ (rec 11 l r k n 0 ∷ []))
+  func-ok : (l : ℕ) (r : Range) (k n : ℕ) (xs : List Rec) → (n ≤ length (signatureOf k .args)) × Turns E Same (argPile (wanted (signatureOf k .args)) 0 n) xs → Typed (signatureOf k .result) (xs ++ (rec 11 l r k n 0 ∷ []))
   unfolding step wantsOf taken
   func-ok l r k n xs a = record {
     proper = good-sig k .0;
@@ -497,7 +493,7 @@ module _ (E : List Entry) (few : Few E) (t : List ℕ) (base : ℕ) where
       → Code E 0 i (funcNode R t base k n r j .state) W (Typed (signatureOf k .result))
   unfolding funcNode
   func-of {W} k n fr r i j a =
-      let Q : List Rec → Type 0 = λ xs. (n ≤ length (signatureOf k .args)) × Turns Same (argPile (wanted (signatureOf k .args)) 0 n) xs in
+      let Q : List Rec → Type 0 = λ xs. (n ≤ length (signatureOf k .args)) × Turns E Same (argPile (wanted (signatureOf k .args)) 0 n) xs in
       put E {d = 0} {W = W} {A = Q} {C = Typed (signatureOf k .result)}
       (seq E {d₁ = 0} {d₂ = 0} {W₁ = Unit {0}} {W₂ = W} {W = W} {A = Counted k n} {B = Args (wanted (signatureOf k .args)) 0 n} {C = Q} (notes-code k n fr r i) a (λ w. tt) (λ w. w)
       (λ xs ys u v. (u .1, nothing-then Same (argPile (wanted (signatureOf k .args)) 0 n) xs ys (u .0) (v (clear-wanted (signatureOf k .args) 0 n (good-sig k .1) (omega (arith, u .1)))))))
@@ -512,7 +508,7 @@ module _ (E : List Entry) (few : Few E) (t : List ℕ) (base : ℕ) where
     expr-code (numberLit r e m) i = number-code r e m i
     expr-code (sysFuncCall r fr k es) i = func-of k (count es) fr r i _ (args-code (wanted (signatureOf k .args)) 0 es (funcNotes R t base k (count es) fr r i))
     expr-code (userFuncCall r f e) i =
-        user-of f r (funcName R t base f i .number) i _ (user-args f (exprRange e) i (compileExpr R t base e (funcName R t base f i .state)) (expr-code e (funcName R t base f i .state)))
+        user-of f r (optRealSym R t base f i .number) i _ (user-args f (exprRange e) i (compileExpr R t base e (optRealSym R t base f i .state)) (expr-code e (optRealSym R t base f i .state)))
     expr-code (binary r a o k b) i =
         binary-of k r (exprRange a) o (exprRange b) i (compileExpr R t base a i) (compileExpr R t base b (compileExpr R t base a i .state)) (expr-code a i) (expr-code b (compileExpr R t base a i .state))
     expr-code (unary r k e) i = unary-of k r (exprRange e) i (compileExpr R t base e i) (expr-code e i)

@@ -15,8 +15,8 @@ use Rattle.rules.specs.declared.types.«Type».the-variants.{Integer, Re
 use Rattle.rules.specs.Types.{matchesType, exactMatches}
 use Rattle.rules.specs.Name.{readName}
 use Rattle.rules.specs.Tables.{drawArity, drawn, operand, signatureOf, tab, spc, wanted, everyReal}
-use Rattle.rules.specs.Expr.{Out, textSize, quotedLength, isText, compileSym, checkType, checkReal, realSym, varNode, textNode, numberNode, arityNotes, funcNotes, funcNode, funcName, userCall, likeNode, arithNode, binaryNode, unaryNode, indexNode, compileExpr, compileArgs, compileTyped, indexPlace, compileLvalue}
-use Rattle.rules.specs.Stmt.{byteOf, isIdent, datumLength, isValue, isFile, isTabSpc, surplusNotes, drawNode, datumNode, compileData, defNode, compileDef, dimNode, dimOne, compileDim, placeTyped, compileFields, compileField, compileStep, forNode, compileFor, waitingJump, compileGo, compileRestore, inputArgBy, fnPlace, fnInput, inputVar, inputVars, inputSource, compileInput, assignCall, assignNode, compileLet, badByte, badBytes, allBytes, loadByte, loadBytes, loadNode, compileLoad, locatePart, compileLocate, nextOne, nextEach, compileNext, onJumps, compileOn, openNode, compileOpen, tabCall, printValue, behindValue, printOne, printEach, emptyLine, compilePrint, compileRead, compileSwap, compileWhile, compileStmt}
+use Rattle.rules.specs.Expr.{Out, textSize, quotedLength, isText, compileSym, checkType, checkReal, realSym, varNode, textNode, numberNode, arityNotes, funcNotes, funcNode, optRealSym, userCall, likeNode, arithNode, binaryNode, unaryNode, indexNode, compileExpr, compileArgs, compileTyped, indexPlace, compileLvalue}
+use Rattle.rules.specs.Stmt.{byteOf, isIdent, datumLength, isValue, isFile, isTabSpc, surplusNotes, drawNode, datumNode, compileData, defNode, compileDef, dimNode, dimOne, compileDim, placeTyped, compileFields, compileField, compileStep, forNode, compileFor, pendingJump, compileGo, compileRestore, inputArgBy, fnPlace, fnInput, inputVar, inputVars, inputSource, compileInput, assignCall, assignNode, compileLet, badByte, badBytes, allBytes, loadByte, loadBytes, loadNode, compileLoad, locatePart, compileLocate, nextOne, nextEach, compileNext, onJumps, compileOn, openNode, compileOpen, tabCall, printValue, behindValue, printOne, printEach, emptyLine, compilePrint, compileRead, compileSwap, compileWhile, compileStmt}
 use Rattle.rules.specs.Writes.{isWriteCall}
 
 pub record Keeps {S : Type 0} (R : Recorder S) (P : S → Type 0) : Type 0 where
@@ -64,9 +64,9 @@ module _ {S : Type 0} {R : Recorder S} {P : S → Type 0} (κ : Keeps R P) (t : 
   unfolding realSym
   keep-real-sym r p = keep-real r _ (keep-sym r p)
 
-  keep-func-name : {s : S} (f : Opt Range) → P s → P (funcName R t base f s .state)
-  keep-func-name absent p = p
-  keep-func-name (given fr) p = keep-real-sym fr p
+  keep-opt-real-sym : {s : S} (f : Opt Range) → P s → P (optRealSym R t base f s .state)
+  keep-opt-real-sym absent p = p
+  keep-opt-real-sym (given fr) p = keep-real-sym fr p
 
   -- expressions
   keep-text : {s : S} (r : Range) → P s → P (textNode R t base r s)
@@ -123,7 +123,7 @@ module _ {S : Type 0} {R : Recorder S} {P : S → Type 0} (κ : Keeps R P) (t : 
     keep-expr (stringLit r) p = keep-text r p
     keep-expr (numberLit r e m) p = keep-number r e m p
     keep-expr (sysFuncCall r fr k es) p = keep-func k (count es) r (keep-args (wanted (signatureOf k .args)) zero es (keep-func-notes k (count es) fr r p))
-    keep-expr (userFuncCall r f e) p = keep-user f r _ (keep-check Real (exprRange e) _ (keep-expr e (keep-func-name f p)))
+    keep-expr (userFuncCall r f e) p = keep-user f r _ (keep-check Real (exprRange e) _ (keep-expr e (keep-opt-real-sym f p)))
     keep-expr (binary r a o k b) p = keep-binary k r (exprRange a) o (exprRange b) _ _ (keep-expr b (keep-expr a p))
     keep-expr (unary r k e) p = keep-unary k r (exprRange e) _ (keep-expr e p)
     keep-expr (index r n es) p = keep-index n r (count es) (keep-args everyReal zero es p)
@@ -207,7 +207,7 @@ module _ {S : Type 0} {R : Recorder S} {P : S → Type 0} (κ : Keeps R P) (t : 
 
   pub keep-def : {s : S} (r : Range) (n a : Opt Range) (e : Expr) → P s → P (compileDef R t base r n a e s)
   unfolding compileDef
-  keep-def r n a e p = keep-def-node n a r _ _ e (keep-func-name a (keep-func-name n p))
+  keep-def r n a e p = keep-def-node n a r _ _ e (keep-opt-real-sym a (keep-opt-real-sym n p))
 
   -- DIM
   keep-dim-node : {s : S} (x : Opt Range) (n : ℕ) → P s → P (dimNode R t base x n s)
@@ -253,10 +253,10 @@ module _ {S : Type 0} {R : Recorder S} {P : S → Type 0} (κ : Keeps R P) (t : 
 
   pub keep-for : {s : S} (r : Range) (v : Opt Range) (a b : Expr) (e : Opt Expr) → P s → P (compileFor R t base r v a b e s)
   unfolding compileFor
-  keep-for r v a b e p = keep-for-node v r _ e (keep-step e (keep-typed Real b (keep-typed Real a (keep-func-name v p))))
+  keep-for r v a b e p = keep-for-node v r _ e (keep-step e (keep-typed Real b (keep-typed Real a (keep-opt-real-sym v p))))
 
   -- GOTO, GOSUB, RESTORE
-  keep-waiting : {s : S} (sub : ℕ) (r : Range) (l : ℕ) (lr : Range) → P s → P (waitingJump R t base sub r l lr s)
+  keep-waiting : {s : S} (sub : ℕ) (r : Range) (l : ℕ) (lr : Range) → P s → P (pendingJump R t base sub r l lr s)
   keep-waiting sub r l lr p = emitted (other-pick (eqb sub 1) 21 20 refl refl) p
 
   pub keep-go : {s : S} (r : Range) (sub : ℕ) (x : Opt Target) → P s → P (compileGo R t base r sub x s)
@@ -279,7 +279,7 @@ module _ {S : Type 0} {R : Recorder S} {P : S → Type 0} (κ : Keeps R P) (t : 
 
   keep-fn-input : {s : S} (b : Bool) (r : Range) (f : Opt Range) (e : Expr) → P s → P (fnInput R t base b r f e s)
   keep-fn-input true r f e p = noted p
-  keep-fn-input false r f e p = keep-fn-place f (isIdent e) r _ _ (keep-input-arg (isIdent e) e (keep-func-name f p))
+  keep-fn-input false r f e p = keep-fn-place f (isIdent e) r _ _ (keep-input-arg (isIdent e) e (keep-opt-real-sym f p))
 
   keep-input-var : {s : S} (b : Bool) (e : Expr) → P s → P (inputVar R t base b e s)
   unfolding inputVar

@@ -21,7 +21,7 @@ use Rattle.rules.specs.Expr.{compileSym, compileArgs, compileTyped, comp
 use Rattle.rules.specs.Stmt
 use Rattle.rules.specs.Missing.{All, Present, WholeExpr, WholeExprs}
 use Rattle.rules.specs.Piles.{num, txt, plc, Pile, taken, kindOf, numbers, operands, fieldWants, isSet, wantsOf, step}
-use Rattle.rules.proofs.PileLaws.{Flow, Plain, plain-one, plainCall, flow-append}
+use Rattle.rules.proofs.PileLaws.{Flow, Plain, plain-one, plainCall, flow-append, Turns}
 use Rattle.rules.proofs.Grown.{Code, seq, put, stay, emits, fails, void, with-ok}
 use Rattle.rules.proofs.ExprPiles.{Proper, Clear, argPile, own-kind, rep-num, taken-numbers, Few, Known, Subscripted, subscripted, sym-code, check-code, args-code, typed-code}
 use Rattle.rules.proofs.Blocks.{soloCall, solo}
@@ -110,9 +110,6 @@ module _ (E : List Entry) (few : Few E) (t : List ℕ) (base : ℕ) where
   abbrev R : Recorder Ideal
   R = rulesR t
 
-  abbrev pub Turns : (Pile → Pile) → (Pile → Pile) → List Rec → Type 0
-  Turns f g xs = (P : Pile) → Plain E xs (f P) (g P)
-
   abbrev pub Flat : List Rec → Type 0
   Flat xs = Plain E xs [] []
 
@@ -123,34 +120,34 @@ module _ (E : List Entry) (few : Few E) (t : List ℕ) (base : ℕ) where
   Kno n x xs = Known E few t base n x xs
 
   -- one after the other
-  pub two : {d₁ d₂ : ℕ} {i j k : Ideal} {W₁ W₂ : Type 0} (f g h : Pile → Pile) → Code E d₁ i j W₁ (Turns f g) → Code E d₂ j k W₂ (Turns g h) → Code E (d₁ + d₂) i k (W₁ × W₂) (Turns f h)
+  pub two : {d₁ d₂ : ℕ} {i j k : Ideal} {W₁ W₂ : Type 0} (f g h : Pile → Pile) → Code E d₁ i j W₁ (Turns E f g) → Code E d₂ j k W₂ (Turns E g h) → Code E (d₁ + d₂) i k (W₁ × W₂) (Turns E f h)
   two {W₁ = W₁} {W₂ = W₂} f g h a b =
-      seq E {W = W₁ × W₂} {A = Turns f g} {B = Turns g h} {C = Turns f h} a b (λ w. w .0) (λ w. w .1) (λ xs ys u v P. flow-append (u P) (v P))
+      seq E {W = W₁ × W₂} {A = Turns E f g} {B = Turns E g h} {C = Turns E f h} a b (λ w. w .0) (λ w. w .1) (λ xs ys u v P. flow-append (u P) (v P))
 
   -- the same from a lower pile
   pub flat-two : {i j k : Ideal} {W₁ W₂ : Type 0} → Code E 0 i j W₁ Flat → Code E 0 j k W₂ Flat → Code E 0 i k (W₁ × W₂) Flat
   flat-two {W₁ = W₁} {W₂ = W₂} a b =
       seq E {d₁ = 0} {d₂ = 0} {W = W₁ × W₂} {A = Flat} {B = Flat} {C = Flat} a b (λ w. w .0) (λ w. w .1) (λ xs ys u v. flow-append u v)
 
-  pub flat-of : {d : ℕ} {i j : Ideal} {W : Type 0} → Code E d i j W (Turns (λ P. P) (λ P. P)) → Code E d i j W Flat
-  flat-of {d} {W = W} a = with-ok E {W = W} {A = Turns (λ P. P) (λ P. P)} d (omega arith) a (λ w. w) (λ w xs u. u [])
+  pub flat-of : {d : ℕ} {i j : Ideal} {W : Type 0} → Code E d i j W (Turns E (λ P. P) (λ P. P)) → Code E d i j W Flat
+  flat-of {d} {W = W} a = with-ok E {W = W} {A = Turns E (λ P. P) (λ P. P)} d (omega arith) a (λ w. w) (λ w xs u. u [])
 
   -- one more record
-  pub turn : {d : ℕ} {i j : Ideal} {W : Type 0} (f g h : Pile → Pile) → Code E d i j W (Turns f g) → d ≤ 2 → (r : Rec) → plainCall (r .call) ≡ true → ((P : Pile) → step E r (g P) ≡ given (h P))
-      → Code E 0 i (ideal (j .records ++ (r ∷ [])) (j .notes) (j .entries) (j .line) (j .firstDatum)) W (Turns f h)
-  turn {W = W} f g h a l r e s = put E {W = W} {A = Turns f g} {C = Turns f h} a l r (λ xs u P. flow-append (u P) (plain-one E r (g P) (h P) e (s P)))
+  pub turn : {d : ℕ} {i j : Ideal} {W : Type 0} (f g h : Pile → Pile) → Code E d i j W (Turns E f g) → d ≤ 2 → (r : Rec) → plainCall (r .call) ≡ true → ((P : Pile) → step E r (g P) ≡ given (h P))
+      → Code E 0 i (ideal (j .records ++ (r ∷ [])) (j .notes) (j .entries) (j .line) (j .firstDatum)) W (Turns E f h)
+  turn {W = W} f g h a l r e s = put E {W = W} {A = Turns E f g} {C = Turns E f h} a l r (λ xs u P. flow-append (u P) (plain-one E r (g P) (h P) e (s P)))
 
   -- a statement's last record
-  pub closes : {d : ℕ} {i j : Ideal} {W : Type 0} (g : Pile → Pile) → Code E d i j W (Turns (λ P. P) g) → d ≤ 2 → (r : Rec) → soloCall (r .call) ≡ true → step E r (g []) ≡ given []
+  pub closes : {d : ℕ} {i j : Ideal} {W : Type 0} (g : Pile → Pile) → Code E d i j W (Turns E (λ P. P) g) → d ≤ 2 → (r : Rec) → soloCall (r .call) ≡ true → step E r (g []) ≡ given []
       → Code E 0 i (ideal (j .records ++ (r ∷ [])) (j .notes) (j .entries) (j .line) (j .firstDatum)) W Flat
-  closes {W = W} g a l r e s = put E {W = W} {A = Turns (λ P. P) g} {C = Flat} a l r (λ xs u. flow-append (u []) (solo E r (g []) e s))
+  closes {W = W} g a l r e s = put E {W = W} {A = Turns E (λ P. P) g} {C = Flat} a l r (λ xs u. flow-append (u []) (solo E r (g []) e s))
 
-  pub pushed : (want : Ty) → Proper want → (e : Expr) (i : Ideal) → Code E 0 i (compileTyped R t base want e i) (WholeExpr e) (Turns (λ P. P) (λ P. kindOf want ∷ P))
-  pushed want p e i = with-ok E {A = λ xs. Proper want → Turns (λ P. P) (λ P. kindOf want ∷ P) xs} 0 (omega arith) (typed-code E few t base want e i) (λ w. w) (λ w xs a. a p)
+  pub pushed : (want : Ty) → Proper want → (e : Expr) (i : Ideal) → Code E 0 i (compileTyped R t base want e i) (WholeExpr e) (Turns E (λ P. P) (λ P. kindOf want ∷ P))
+  pushed want p e i = with-ok E {A = λ xs. Proper want → Turns E (λ P. P) (λ P. kindOf want ∷ P) xs} 0 (omega arith) (typed-code E few t base want e i) (λ w. w) (λ w xs a. a p)
 
   -- the same upon f P
-  pub pushed-on : (f : Pile → Pile) (want : Ty) → Proper want → (e : Expr) (i : Ideal) → Code E 0 i (compileTyped R t base want e i) (WholeExpr e) (Turns f (λ P. kindOf want ∷ f P))
-  pushed-on f want p e i = with-ok E {A = Turns (λ P. P) (λ P. kindOf want ∷ P)} 0 (omega arith) (pushed want p e i) (λ w. w) (λ w xs a P. a (f P))
+  pub pushed-on : (f : Pile → Pile) (want : Ty) → Proper want → (e : Expr) (i : Ideal) → Code E 0 i (compileTyped R t base want e i) (WholeExpr e) (Turns E f (λ P. kindOf want ∷ f P))
+  pushed-on f want p e i = with-ok E {A = Turns E (λ P. P) (λ P. kindOf want ∷ P)} 0 (omega arith) (pushed want p e i) (λ w. w) (λ w xs a P. a (f P))
 
   op-step : (l : ℕ) (r : Range) (k n : ℕ) (P Q : Pile) → PlainOp k → taken (operands k n) P ≡ given Q → step E (rec 2 l r k n 0) P ≡ given Q
   unfolding step wantsOf
@@ -173,10 +170,10 @@ module _ (E : List Entry) (few : Few E) (t : List ℕ) (base : ℕ) where
   op3-step l r k o = op-step l r k 3 (kindOf (operand k 2) ∷ kindOf (operand k 1) ∷ kindOf (operand k 0) ∷ []) [] o (rw (own-kind (operand k 2), own-kind (operand k 1), own-kind (operand k 0)) refl)
 
   -- a last record that fits if something holds
-  pub closes-if : {d : ℕ} {i j : Ideal} {W : Type 0} (U : Type 0) (g : Pile → Pile) → Code E d i j W (Turns (λ P. P) g) → d ≤ 2 → (r : Rec) → soloCall (r .call) ≡ true → (U → step E r (g []) ≡ given [])
+  pub closes-if : {d : ℕ} {i j : Ideal} {W : Type 0} (U : Type 0) (g : Pile → Pile) → Code E d i j W (Turns E (λ P. P) g) → d ≤ 2 → (r : Rec) → soloCall (r .call) ≡ true → (U → step E r (g []) ≡ given [])
       → Code E 0 i (ideal (j .records ++ (r ∷ [])) (j .notes) (j .entries) (j .line) (j .firstDatum)) (W × U) Flat
   closes-if {d} {W = W} U g a l r e s =
-      put E {d = d} {W = W × U} {A = λ xs. Turns (λ P. P) g xs × U} {C = Flat} (with-ok E {W = W} {A = Turns (λ P. P) g} d (omega arith) a (λ w. w .0) (λ w xs u. (u, w .1))) l r
+      put E {d = d} {W = W × U} {A = λ xs. Turns E (λ P. P) g xs × U} {C = Flat} (with-ok E {W = W} {A = Turns E (λ P. P) g} d (omega arith) a (λ w. w .0) (λ w xs u. (u, w .1))) l r
       (λ xs u. flow-append (u .0 []) (solo E r (g []) e (s (u .1))))
 
   pub op1 : (k : ℕ) (r : Range) (a : Expr) (i : Ideal) → Code E 0 i (Stmt.emitOp R t base k 1 r (compileTyped R t base (operand k 0) a i)) (WholeExpr a × PlainOp k) Flat
@@ -228,7 +225,7 @@ module _ (E : List Entry) (few : Few E) (t : List ℕ) (base : ℕ) where
   draw-wants k zero o = refl
   draw-wants k (suc n) o = rw (o .real n, draw-wants k n o)
 
-  draw-ok : (l : ℕ) (r : Range) (k n : ℕ) (xs : List Rec) → DrawOp k → n ≤ drawArity k .max → (Clear (drawn k) 0 n → Turns (λ P. P) (argPile (drawn k) 0 n) xs) → Flat (xs ++ (rec 2 l r k n 0 ∷ []))
+  draw-ok : (l : ℕ) (r : Range) (k n : ℕ) (xs : List Rec) → DrawOp k → n ≤ drawArity k .max → (Clear (drawn k) 0 n → Turns E (λ P. P) (argPile (drawn k) 0 n) xs) → Flat (xs ++ (rec 2 l r k n 0 ∷ []))
   draw-ok l r k n xs o h a =
       flow-append (a (drawn-clear k 0 n (omega arith)) [])
       (solo E (rec 2 l r k n 0) (argPile (drawn k) 0 n []) refl (op-step l r k n (argPile (drawn k) 0 n []) [] (o .plain) (rw (drawn-pile k 0 n [] (omega arith), draw-wants k n o) (taken-numbers n []))))
@@ -244,7 +241,7 @@ module _ (E : List Entry) (few : Few E) (t : List ℕ) (base : ℕ) where
       W = WholeExprs es × DrawOp k
 
       A : List Rec → Type 0
-      A xs = Clear (drawn k) 0 (count es) → Turns (λ P. P) (argPile (drawn k) 0 (count es)) xs
+      A xs = Clear (drawn k) 0 (count es) → Turns E (λ P. P) (argPile (drawn k) 0 (count es)) xs
 
       args : Code E 0 i j (WholeExprs es) A
       args = args-code E few t base (drawn k) 0 es i
@@ -311,11 +308,11 @@ module _ (E : List Entry) (few : Few E) (t : List ℕ) (base : ℕ) where
   Sub k n x xs = Subscripted E few t base k n x xs
 
   -- subscripts, then an array's name
-  sub-code : {W : Type 0} (nr : Range) (k : ℕ) (i j : Ideal) → Code E 0 i j W (λ xs. Clear everyReal 0 k → Turns (λ P. P) (argPile everyReal 0 k) xs)
+  sub-code : {W : Type 0} (nr : Range) (k : ℕ) (i j : Ideal) → Code E 0 i j W (λ xs. Clear everyReal 0 k → Turns E (λ P. P) (argPile everyReal 0 k) xs)
       → Code E 1 i (compileSym R t base nr j .state) W (Sub k (compileSym R t base nr j .number) (compileSym R t base nr j .ty))
   sub-code {W} nr k i j a =
       let y = compileSym R t base nr j in
-      seq E {d₁ = 0} {d₂ = 1} {W₁ = W} {W₂ = Unit {0}} {W = W} {A = λ xs. Clear everyReal 0 k → Turns (λ P. P) (argPile everyReal 0 k) xs} {B = Kno (y .number) (y .ty)} {C = Sub k (y .number) (y .ty)}
+      seq E {d₁ = 0} {d₂ = 1} {W₁ = W} {W₂ = Unit {0}} {W = W} {A = λ xs. Clear everyReal 0 k → Turns E (λ P. P) (argPile everyReal 0 k) xs} {B = Kno (y .number) (y .ty)} {C = Sub k (y .number) (y .ty)}
       a (sym-code E few t base nr j) (λ w. w) (λ w. tt) (λ xs ys u v. subscripted E few t base k (y .number) (y .ty) xs ys u v)
 
   var-place : (l : ℕ) (r : Range) (n : ℕ) (x : Ty) (xs : List Rec) → Kno n x xs → Placed x (xs ++ (rec 7 l r n 0 0 ∷ []))
@@ -329,7 +326,7 @@ module _ (E : List Entry) (few : Few E) (t : List ℕ) (base : ℕ) where
     flow = λ P. flow-append (a .flow P) (plain-one E (rec 8 l r n k 0) (replicate k num ++ P) (plc x ∷ P) refl (rw (taken-numbers k P, ← (a .type)) refl));
   }
 
-  index-place : {W : Type 0} (n : Opt Range) (k : ℕ) (i j : Ideal) → Code E 0 i j W (λ xs. Clear everyReal 0 k → Turns (λ P. P) (argPile everyReal 0 k) xs)
+  index-place : {W : Type 0} (n : Opt Range) (k : ℕ) (i j : Ideal) → Code E 0 i j W (λ xs. Clear everyReal 0 k → Turns E (λ P. P) (argPile everyReal 0 k) xs)
       → Code E 0 i (indexPlace R t base n k j .state) (Present n × W) (Placed (indexPlace R t base n k j .ty))
   index-place {W} absent k i j a = void E 0 (⊥ × W) (Placed Error) (λ w. w .0) a
   index-place {W} (given nr) k i j a =
@@ -362,7 +359,7 @@ module _ (E : List Entry) (few : Few E) (t : List ℕ) (base : ℕ) where
   unfolding step wantsOf
   dim-step l r n k P = rw (taken-numbers k P) refl
 
-  dim-node : {W : Type 0} (n : Opt Range) (k : ℕ) (i j : Ideal) → Code E 0 i j W (λ xs. Clear everyReal 0 k → Turns (λ P. P) (argPile everyReal 0 k) xs)
+  dim-node : {W : Type 0} (n : Opt Range) (k : ℕ) (i j : Ideal) → Code E 0 i j W (λ xs. Clear everyReal 0 k → Turns E (λ P. P) (argPile everyReal 0 k) xs)
       → Code E 0 i (Stmt.dimNode R t base n k j) (Present n × W) Flat
   dim-node {W} absent k i j a = void E 0 (⊥ × W) Flat (λ w. w .0) a
   dim-node {W} (given nr) k i j a =
@@ -391,10 +388,10 @@ module _ (E : List Entry) (few : Few E) (t : List ℕ) (base : ℕ) where
   dim-code (more e es) i = flat-two (dim-one e i) (dim-code es (Stmt.dimOne R t base e i))
 
   -- a place of a type that is wanted
-  text-place : (e : Expr) (i : Ideal) → Code E 0 i (Stmt.placeTyped R t base String e i) (WholeExpr e × IsPlace e) (Turns (λ P. P) (λ P. plc String ∷ P))
+  text-place : (e : Expr) (i : Ideal) → Code E 0 i (Stmt.placeTyped R t base String e i) (WholeExpr e × IsPlace e) (Turns E (λ P. P) (λ P. plc String ∷ P))
   text-place e i =
       let p = compileLvalue R t base e i in
-      seq E {d₁ = 0} {d₂ = 0} {W₂ = Unit {0}} {W = WholeExpr e × IsPlace e} {A = Placed (p .ty)} {B = λ xs. (xs ≡ []) × (matchesType (p .ty) String ≡ true)} {C = Turns (λ P. P) (λ P. plc String ∷ P)}
+      seq E {d₁ = 0} {d₂ = 0} {W₂ = Unit {0}} {W = WholeExpr e × IsPlace e} {A = Placed (p .ty)} {B = λ xs. (xs ≡ []) × (matchesType (p .ty) String ≡ true)} {C = Turns E (λ P. P) (λ P. plc String ∷ P)}
       (place-code e i) (check-code E few t base String (exprRange e) (p .ty) (p .state)) (λ w. w) (λ w. tt)
       (λ xs ys u v P. rw (v .0, append-nil xs, ← string-place (p .ty) (u .proper) (v .1)) (u .flow P))
 
@@ -426,16 +423,16 @@ module _ (E : List Entry) (few : Few E) (t : List ℕ) (base : ℕ) where
   abbrev WholeField : FieldSpec → Type 0
   WholeField f = WholeExpr (f .len) × (WholeExpr (f .var) × IsPlace (f .var))
 
-  fields-code : (fs : List FieldSpec) (i : Ideal) → Code E 0 i (Stmt.compileFields R t base fs i) (All WholeField fs) (Turns (λ P. P) (fieldPile (length fs)))
+  fields-code : (fs : List FieldSpec) (i : Ideal) → Code E 0 i (Stmt.compileFields R t base fs i) (All WholeField fs) (Turns E (λ P. P) (fieldPile (length fs)))
   unfolding Stmt.compileFields
-  fields-code [] i = stay E i (Unit {0}) (Turns (λ P. P) (λ P. P)) (λ w P. Flow.done)
+  fields-code [] i = stay E i (Unit {0}) (Turns E (λ P. P) (λ P. P)) (λ w P. Flow.done)
   fields-code (f ∷ fs) i =
       let j = compileTyped R t base Real (f .len) i in
       let k = Stmt.placeTyped R t base String (f .var) j in
-      let one : Code E 0 i k (WholeExpr (f .len) × (WholeExpr (f .var) × IsPlace (f .var))) (Turns (λ P. P) (λ P. plc String ∷ num ∷ P)) =
+      let one : Code E 0 i k (WholeExpr (f .len) × (WholeExpr (f .var) × IsPlace (f .var))) (Turns E (λ P. P) (λ P. plc String ∷ num ∷ P)) =
       two (λ P. P) (λ P. num ∷ P) (λ P. plc String ∷ num ∷ P) (pushed Real tt (f .len) i)
-      (with-ok E {A = Turns (λ P. P) (λ P. plc String ∷ P)} {C = Turns (λ P. num ∷ P) (λ P. plc String ∷ num ∷ P)} 0 (omega arith) (text-place (f .var) j) (λ w. w) (λ w xs u P. u (num ∷ P))) in
-      seq E {d₁ = 0} {d₂ = 0} {W = All WholeField (f ∷ fs)} {A = Turns (λ P. P) (λ P. plc String ∷ num ∷ P)} {B = Turns (λ P. P) (fieldPile (length fs))} {C = Turns (λ P. P) (fieldPile (length (f ∷ fs)))}
+      (with-ok E {A = Turns E (λ P. P) (λ P. plc String ∷ P)} {C = Turns E (λ P. num ∷ P) (λ P. plc String ∷ num ∷ P)} 0 (omega arith) (text-place (f .var) j) (λ w. w) (λ w xs u P. u (num ∷ P))) in
+      seq E {d₁ = 0} {d₂ = 0} {W = All WholeField (f ∷ fs)} {A = Turns E (λ P. P) (λ P. plc String ∷ num ∷ P)} {B = Turns E (λ P. P) (fieldPile (length fs))} {C = Turns E (λ P. P) (fieldPile (length (f ∷ fs)))}
       one (fields-code fs k) (λ w. w .0) (λ w. w .1) (λ xs ys u v P. flow-append (u P) (rw (field-more (length fs) P) at (v (plc String ∷ num ∷ P))))
 
   field-step : (l : ℕ) (r : Range) (n : ℕ) (P : Pile) → step E (rec 29 l r n 0 0) (num ∷ fieldPile n P) ≡ given P

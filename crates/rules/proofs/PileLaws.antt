@@ -132,6 +132,10 @@ Never v = ⊥
 abbrev pub Plain : List Entry → List Rec → Pile → Pile → Type 0
 Plain es xs P Q = Flow es Never Never xs P Q
 
+-- the same from one pile to another, whatever lies below
+abbrev pub Turns : List Entry → (Pile → Pile) → (Pile → Pile) → List Rec → Type 0
+Turns E f g xs = (P : Pile) → Plain E xs (f P) (g P)
+
 pub plain-one : (es : List Entry) (r : Rec) (P Q : Pile) → plainCall (r .call) ≡ true → step es r P ≡ given Q → Plain es (r ∷ []) P Q
 plain-one es r P Q e s = go s (plain-side Never Never r Q [] e) done
 

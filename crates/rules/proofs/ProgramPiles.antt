@@ -18,13 +18,15 @@ use Rattle.sheet.specs.declared.form.Checked.{Checked}
 use Rattle.sheet.specs.declared.form.Checked.the-variants.{Accepted, TooLong, Surrogate, WorkTooShort, Offends}
 use Rattle.sheet.specs.declared.form.Offence.the-variants.{BadWord, TooDeep, BadLength, BadRange, Fseek}
 use Rattle.sheet.specs.Check.{checked}
-use Rattle.sheet.specs.Tree.{Opt, absent, given, Labelled, ProgramLine, programAt}
+use Rattle.sheet.specs.Tree.{Opt, absent, given, Target, ProgramLine, programAt}
 use Rattle.rules.specs.Stmt.{compileStmts}
 use Rattle.rules.specs.Program.{isPendingJump, isPendingRestore, Lines, marked, labelNote, lineBegun, compileLine, compileLines, firstLine, resolveLabels, resolveDatumIndices, closeUp}
-use Rattle.rules.specs.Outcome.{Lengths, refused, accepted, mostRecords, sized, outcomeBy, outcome, compiled, finished}
+use Rattle.recorder.specs.Layout.{mostRecords}
+use Rattle.rules.specs.Outcome.{Lengths, refused, accepted, sized, outcomeBy, outcome, compiled, finished}
 use Rattle.rules.specs.Missing.{All, Whole, WholeStmts}
 use Rattle.rules.specs.Piles.{Pile}
-use Rattle.rules.specs.Demand.{NoError, stmtsEdges, linesEdges, statementEdges, ExactlyOne}
+use Rattle.rules.specs.Each.{eachStmts, eachLines}
+use Rattle.rules.specs.Demand.{NoError, around, statementAddrs, ExactlyOne}
 use Rattle.rules.proofs.PileLaws.{all-left, all-right, all-append, pileIn}
 use Rattle.rules.proofs.Grown.{Prefix, Code, seq, stay, fails, with-ok, Warning, same}
 use Rattle.rules.proofs.ExprPiles.{Few}
@@ -43,31 +45,31 @@ module _ (t : List ℕ) where
   abbrev R : Recorder Ideal
   R = rulesR t
 
-  -- where lines begin, and the edges of their statements
-  abbrev allEdges : List ProgramLine → Lines Ideal → List ℕ
-  allEdges [] c = []
-  allEdges (l ∷ ls) c = (length (c .state .records) ∷ stmtsEdges t (c .base) (l .stmts) (lineBegun R t c l)) ++ allEdges ls (compileLine R t l c)
+  -- where lines begin, and where their statements begin and end
+  abbrev allAddrs : List ProgramLine → Lines Ideal → List ℕ
+  allAddrs [] c = []
+  allAddrs (l ∷ ls) c = (length (c .state .records) ∷ eachStmts t (around t) (c .base) (l .stmts) (lineBegun R t c l)) ++ allAddrs ls (compileLine R t l c)
 
-  edges-of : (X : ℕ → Type 0) (ls : List ProgramLine) (c : Lines Ideal) → All X (allEdges ls c) → All X (linesEdges t ls c)
-  unfolding linesEdges
-  edges-of X [] c a = tt
-  edges-of X (l ∷ ls) c a =
-      let ms = stmtsEdges t (c .base) (l .stmts) (lineBegun R t c l) in
-      all-append X ms (linesEdges t ls (compileLine R t l c)) (all-left X ms (allEdges ls (compileLine R t l c)) (a .1)) (edges-of X ls (compileLine R t l c) (all-right X ms (allEdges ls (compileLine R t l c)) (a .1)))
+  addrs-of : (X : ℕ → Type 0) (ls : List ProgramLine) (c : Lines Ideal) → All X (allAddrs ls c) → All X (eachLines t (around t) ls c)
+  unfolding eachLines
+  addrs-of X [] c a = tt
+  addrs-of X (l ∷ ls) c a =
+      let ms = eachStmts t (around t) (c .base) (l .stmts) (lineBegun R t c l) in
+      all-append X ms (eachLines t (around t) ls (compileLine R t l c)) (all-left X ms (allAddrs ls (compileLine R t l c)) (a .1)) (addrs-of X ls (compileLine R t l c) (all-right X ms (allAddrs ls (compileLine R t l c)) (a .1)))
 
-  marks-of : (X : ℕ → Type 0) (ls : List ProgramLine) (c : Lines Ideal) → All X (allEdges ls c) → All (λ (m : Mark). X (m .addr)) (c .marks) → All (λ (m : Mark). X (m .addr)) (compileLines R t ls c .marks)
+  marks-of : (X : ℕ → Type 0) (ls : List ProgramLine) (c : Lines Ideal) → All X (allAddrs ls c) → All (λ (m : Mark). X (m .addr)) (c .marks) → All (λ (m : Mark). X (m .addr)) (compileLines R t ls c .marks)
   unfolding compileLines compileLine
   marks-of X [] c a m = m
   marks-of X (l ∷ ls) c a m =
-      let ms = stmtsEdges t (c .base) (l .stmts) (lineBegun R t c l) in
-      marks-of X ls (compileLine R t l c) (all-right X ms (allEdges ls (compileLine R t l c)) (a .1)) (go (l .label))
+      let ms = eachStmts t (around t) (c .base) (l .stmts) (lineBegun R t c l) in
+      marks-of X ls (compileLine R t l c) (all-right X ms (allAddrs ls (compileLine R t l c)) (a .1)) (go (l .label))
     where
-      go : (o : Opt Labelled) → All (λ (m : Mark). X (m .addr)) (marked o (length (c .state .records)) (R .firstDatum (compileStmts R t (c .base) (l .stmts) (lineBegun R t c l))) (c .marks))
+      go : (o : Opt Target) → All (λ (m : Mark). X (m .addr)) (marked o (length (c .state .records)) (R .firstDatum (compileStmts R t (c .base) (l .stmts) (lineBegun R t c l))) (c .marks))
       go absent = m
       go (given x) = all-append (λ (m : Mark). X (m .addr)) (c .marks) (mark (x .label) (length (c .state .records)) (R .firstDatum (compileStmts R t (c .base) (l .stmts) (lineBegun R t c l))) ∷ []) m (a .0, tt)
 
   module _ (E : List Entry) (few : Few E) where
-    note-code : (base last : ℕ) (o : Opt Labelled) (i : Ideal) → Code E 0 i (labelNote R t base last o i) (Unit {0}) (λ xs. xs ≡ [])
+    note-code : (base last : ℕ) (o : Opt Target) (i : Ideal) → Code E 0 i (labelNote R t base last o i) (Unit {0}) (λ xs. xs ≡ [])
     note-code base last absent i = stay E i (Unit {0}) _ (λ w. refl)
     note-code base last (given x) i = go (ltb (x .label) last)
       where
@@ -83,23 +85,23 @@ module _ (t : List ℕ) where
         (λ xs ys u v. rw (u, v) (good-nil E (length (c .state .records))))
 
     line-code : (l : ProgramLine) (c : Lines Ideal) → Code E 0 (c .state) (compileLine R t l c .state) (WholeStmts (l .stmts) × FormedStmts (l .stmts))
-        (λ xs. Good E (length (c .state .records)) (length (c .state .records) ∷ stmtsEdges t (c .base) (l .stmts) (lineBegun R t c l)) xs)
+        (λ xs. Good E (length (c .state .records)) (length (c .state .records) ∷ eachStmts t (around t) (c .base) (l .stmts) (lineBegun R t c l)) xs)
     unfolding compileLine
     line-code l c =
         let b = lineBegun R t c l in
-        let ms = stmtsEdges t (c .base) (l .stmts) b in
+        let ms = eachStmts t (around t) (c .base) (l .stmts) b in
         let B = length (c .state .records) in
         with-ok E {W = Unit {0} × (WholeStmts (l .stmts) × FormedStmts (l .stmts))} {A = λ xs. Good E B ms xs} 0 (omega arith)
         (then-of E few t (c .base) (c .state) b (compileStmts R t (c .base) (l .stmts) b) [] ms (begun-code c l) (stmts-code E few t (c .base) (l .stmts) b))
-        (λ w. (tt, w)) (λ w xs u. record { flow = u .flow; edges = (first-empty E B xs, u .edges); ahead = u .ahead })
+        (λ w. (tt, w)) (λ w xs u. record { flow = u .flow; addrs = (first-empty E B xs, u .addrs); ahead = u .ahead })
 
-    pub lines-code : (ls : List ProgramLine) (c : Lines Ideal) → Code E 0 (c .state) (compileLines R t ls c .state) (Whole ls × Formed ls) (λ xs. Good E (length (c .state .records)) (allEdges ls c) xs)
+    pub lines-code : (ls : List ProgramLine) (c : Lines Ideal) → Code E 0 (c .state) (compileLines R t ls c .state) (Whole ls × Formed ls) (λ xs. Good E (length (c .state .records)) (allAddrs ls c) xs)
     unfolding compileLines
     lines-code [] c = stay E (c .state) (Unit {0} × Unit {0}) _ (λ w. good-nil E (length (c .state .records)))
     lines-code (l ∷ ls) c =
         let d = compileLine R t l c in
-        with-ok E {W = (WholeStmts (l .stmts) × FormedStmts (l .stmts)) × (Whole ls × Formed ls)} {A = λ xs. Good E (length (c .state .records)) (allEdges (l ∷ ls) c) xs} 0 (omega arith)
-        (then-of E few t (c .base) (c .state) (d .state) (compileLines R t ls d .state) (length (c .state .records) ∷ stmtsEdges t (c .base) (l .stmts) (lineBegun R t c l)) (allEdges ls d) (line-code l c) (lines-code ls d))
+        with-ok E {W = (WholeStmts (l .stmts) × FormedStmts (l .stmts)) × (Whole ls × Formed ls)} {A = λ xs. Good E (length (c .state .records)) (allAddrs (l ∷ ls) c) xs} 0 (omega arith)
+        (then-of E few t (c .base) (c .state) (d .state) (compileLines R t ls d .state) (length (c .state .records) ∷ eachStmts t (around t) (c .base) (l .stmts) (lineBegun R t c l)) (allAddrs ls d) (line-code l c) (lines-code ls d))
         (λ w. ((w .0 .0, w .1 .0), (w .0 .1, w .1 .1))) (λ w xs u. u)
 
 -- closing up keeps the number of records, but for End
@@ -196,11 +198,11 @@ module _ (t : List ℕ) (c : Lines Ideal) where
       call-same : (k : ℕ) → getD W k noRec .call ≡ getD C k noRec .call
       call-same k = zip-call z₃ k ∙ zip-call z₂ k ∙ zip-call z₁ k
 
-  pub closed-piles : (E : List Entry) (ms edges : List ℕ) → Good E 0 ms C → All (λ (m : Mark). Empty E 0 C (m .addr)) (c .marks) → NoError (first-pass .fresh) → NoError (openNotes (v .records))
-      → All (Empty E 0 C) edges → ExactlyOne edges E (closeUp (rulesR t) c .records)
+  pub closed-piles : (E : List Entry) (ms addrs : List ℕ) → Good E 0 ms C → All (λ (m : Mark). Empty E 0 C (m .addr)) (c .marks) → NoError (first-pass .fresh) → NoError (openNotes (v .records))
+      → All (Empty E 0 C) addrs → ExactlyOne addrs E (closeUp (rulesR t) c .records)
   unfolding closeUp cleanUp
-  closed-piles E ms edges g marks n₁ n₂ a =
-      finished-piles E (Empty E 0 C) (Body E 0 C) (delays (length (v .records)) 0 (closeWhiles (v .records) 0)) (v .line) edges (closed-sound E ms g marks n₁ n₂) a
+  closed-piles E ms addrs g marks n₁ n₂ a =
+      finished-piles E (Empty E 0 C) (Body E 0 C) (delays (length (v .records)) 0 (closeWhiles (v .records) 0)) (v .line) addrs (closed-sound E ms g marks n₁ n₂) a
 
 -- what an accepted input is
 accepted-by : (k : Checked) (s t : List ℕ) (L : Lengths) → outcomeBy k s t L .answer .refusal ≡ 0 → (k ≡ Accepted) × (length (finished s t .records) ≤ 65535)
@@ -245,7 +247,7 @@ few-names s t w f n l =
 
 -- the third demand, of a sheet in form
 pub formed-piles : (s t : List ℕ) → length (finished s t .records) ≤ 65535 → Whole (programAt s) → Formed (programAt s) → NoError (finished s t .notes)
-    → ExactlyOne (statementEdges s t) (finished s t .entries) (finished s t .records)
+    → ExactlyOne (statementAddrs s t) (finished s t .entries) (finished s t .records)
 unfolding finished compiled
 formed-piles s t l w f n =
     let c₀ = firstLine (rulesR t) t (ideal [] [] [] 0 0) in
@@ -257,7 +259,7 @@ formed-piles s t l w f n =
     let k = lines-code t E few (programAt s) c₀ in
     let e : c .state .records ≡ k .code = k .records in
     let p : Prefix E E = record { rest = []; whole = sym (append-nil E) } in
-    let g : Good E 0 (allEdges t (programAt s) c₀) (c .state .records) = rw e (k .ok (w, f) (rw (k .notes) at (ns .0)) p) in
-    let marks : All (λ (m : Mark). X (m .addr)) (c .marks) = marks-of t X (programAt s) c₀ (g .edges) tt in
-    let edges : All X (statementEdges s t) = edges-of t X (programAt s) c₀ (g .edges) in
-    rw (closed-entries t c) (closed-piles t c E (allEdges t (programAt s) c₀) (statementEdges s t) g marks (ns .1) (ns .2) edges)
+    let g : Good E 0 (allAddrs t (programAt s) c₀) (c .state .records) = rw e (k .ok (w, f) (rw (k .notes) at (ns .0)) p) in
+    let marks : All (λ (m : Mark). X (m .addr)) (c .marks) = marks-of t X (programAt s) c₀ (g .addrs) tt in
+    let addrs : All X (statementAddrs s t) = addrs-of t X (programAt s) c₀ (g .addrs) in
+    rw (closed-entries t c) (closed-piles t c E (allAddrs t (programAt s) c₀) (statementAddrs s t) g marks (ns .1) (ns .2) addrs)

@@ -16,7 +16,7 @@ use Rattle.rules.specs.declared.types.«Type».the-variants.{Integer, Re
 use Rattle.rules.specs.Types.{matchesType, exactMatches, sigilUnit, sigilType}
 use Rattle.rules.specs.Name.{textPlace, readName}
 use Rattle.rules.specs.Tables.{Signature, signatureOf, tab, spc, wanted, everyReal}
-use Rattle.rules.specs.Expr.{Out, out, Sym, textSize, quotedLength, isText, compileSym, checkType, checkReal, realSym, varNode, textNode, numberNode, arityNotes, funcNotes, funcNode, funcName, userCall, likeNode, arithNode, binaryNode, unaryNode, indexNode, compileExpr, compileArgs, compileTyped, indexPlace, compileLvalue}
+use Rattle.rules.specs.Expr.{Out, out, Sym, textSize, quotedLength, isText, compileSym, checkType, checkReal, realSym, varNode, textNode, numberNode, arityNotes, funcNotes, funcNode, optRealSym, userCall, likeNode, arithNode, binaryNode, unaryNode, indexNode, compileExpr, compileArgs, compileTyped, indexPlace, compileLvalue}
 
 module _ {S T : Type 0} {R : Recorder S} {Q : Recorder T} (σ : Simulation R Q) where
   -- related states, the second one later than w
@@ -161,9 +161,9 @@ module _ {S T : Type 0} {R : Recorder S} {Q : Recorder T} (σ : Simulation R Q) 
   unfolding funcNode
   sim-func k n r g = to (plain refl g)
 
-  pub sim-func-name : {w u : T} {s : S} (f : Opt Range) → Goes σ w s u → GoesNamed σ w (funcName R t base f s) (funcName Q t base f u)
-  sim-func-name absent g = record { goes = g; number = σ .number-refl _ 0 }
-  sim-func-name (given fr) g = sim-real-sym fr g
+  pub sim-opt-real-sym : {w u : T} {s : S} (f : Opt Range) → Goes σ w s u → GoesNamed σ w (optRealSym R t base f s) (optRealSym Q t base f u)
+  sim-opt-real-sym absent g = record { goes = g; number = σ .number-refl _ 0 }
+  sim-opt-real-sym (given fr) g = sim-real-sym fr g
 
   sim-user : {w u : T} {s : S} {n n′ : ℕ} (f : Opt Range) (r : Range) → σ .Number u n n′ → Goes σ w s u
       → Goes σ w (userCall R t base f r n s) (userCall Q t base f r n′ u)
@@ -202,7 +202,7 @@ module _ {S T : Type 0} {R : Recorder S} {Q : Recorder T} (σ : Simulation R Q) 
     sim-expr (numberLit r e m) g = to (sim-number r e m g)
     sim-expr (sysFuncCall r fr k es) g = sim-func k (count es) r (sim-args (wanted (signatureOf k .args)) zero es (sim-func-notes k (count es) fr r g))
     sim-expr (userFuncCall r f e) g =
-        let y = sim-func-name f g in
+        let y = sim-opt-real-sym f g in
         let x = sim-expr e (start (y .goes)) in
         let c = sim-check Real (exprRange e) (x .ty) (x .goes) in
         to (over (y .goes) (sim-user f r (number-then (y .number) c) c))

@@ -9,12 +9,12 @@ use borrow.Author.Tests.{eqb-true}
 use Rattle.recorder.specs.Word.{pick, either}
 use Rattle.recorder.specs.Recorder.{Recorder, Look}
 use Rattle.recorder.specs.Ideal.{Search, missing, found}
-use Rattle.recorder.specs.Marks.{Mark, orElse, addrOf, datumOf, dataOf}
+use Rattle.recorder.specs.Marks.{Mark, orElse, addrOf, datumFrom, dataOf}
 use Rattle.recorder.proofs.Bools.{both-false}
 use Rattle.recorder.proofs.Bools.{both-right}
 use Rattle.simulation.proofs.Hide.{twice}
 use Rattle.simulation.proofs.Simulation.{Simulation, Looks}
-use Rattle.sheet.specs.Tree.{Opt, absent, given, Stmts, Labelled, ProgramLine}
+use Rattle.sheet.specs.Tree.{Opt, absent, given, Stmts, Target, ProgramLine}
 use Rattle.rules.specs.Stmt.{compileStmts}
 use Rattle.rules.specs.Program.{Lines, marked, isPendingJump, isPendingRestore, labelNote, lineBegun, lineDone, compileLine, compileLines, firstLine, settleBy, settleJump, settleRestore, resolveLabels, resolveDatumIndices, closeUp}
 use Rattle.rules.proofs.SimExpr.{Goes, begin, start, over, noted, pick-goes, place-then}
@@ -116,7 +116,7 @@ module _ {S T : Type 0} {R : Recorder S} {Q : Recorder T} (σ : Simulation R Q) 
   marks-snoc no-marks h = one-mark h no-marks
   marks-snoc (one-mark x t) h = one-mark x (marks-snoc t h)
 
-  sim-marked : {u : T} {a a′ f f′ : ℕ} {ms ns : List Mark} (l : Opt Labelled) → σ .Place u a a′ → σ .Number u f f′ → eqb f 0 ≡ eqb f′ 0 → MarksGo u ms ns
+  sim-marked : {u : T} {a a′ f f′ : ℕ} {ms ns : List Mark} (l : Opt Target) → σ .Place u a a′ → σ .Number u f f′ → eqb f 0 ≡ eqb f′ 0 → MarksGo u ms ns
       → MarksGo u (marked l a f ms) (marked l a′ f′ ns)
   sim-marked absent p n e m = m
   sim-marked (given l) p n e m = marks-snoc m record { label = refl; addr = p; first = n; without = e }
@@ -128,7 +128,7 @@ module _ {S T : Type 0} {R : Recorder S} {Q : Recorder T} (σ : Simulation R Q) 
   sim-addr l (one-mark h t) = or-else (sim-addr l t) (same-label l (h .label) (each (h .addr)))
 
   -- where all records fit they find the same
-  datum-alike : {u : T} (x y : ℕ) → σ .Number u x y → eqb x 0 ≡ eqb y 0 → Alike (σ .Number u) (datumOf x) (datumOf y)
+  datum-alike : {u : T} (x y : ℕ) → σ .Number u x y → eqb x 0 ≡ eqb y 0 → Alike (σ .Number u) (datumFrom x) (datumFrom y)
   unfolding before
   datum-alike zero zero n e = no-one
   datum-alike zero (suc y) n e = absurd (let z : _≡_ {A = ℕ} 0 1 = cc (eqb·suc-zero y) in omega arith)
@@ -143,7 +143,7 @@ module _ {S T : Type 0} {R : Recorder S} {Q : Recorder T} (σ : Simulation R Q) 
 
   -- lines
   module _ (t : List ℕ) where
-    sim-label-note : {w u : T} {s : S} (base last : ℕ) (l : Opt Labelled) → Goes σ w s u → Goes σ w (labelNote R t base last l s) (labelNote Q t base last l u)
+    sim-label-note : {w u : T} {s : S} (base last : ℕ) (l : Opt Target) → Goes σ w s u → Goes σ w (labelNote R t base last l s) (labelNote Q t base last l u)
     sim-label-note base last absent g = g
     sim-label-note base last (given l) g = pick-goes (ltb (l .label) last) (noted g) g
 
@@ -196,11 +196,11 @@ module _ {S T : Type 0} {R : Recorder S} {Q : Recorder T} (σ : Simulation R Q) 
       let l = σ .look s u k (g .goes .sim) (g .fits) in
       rw (l .c) record {
         goes = record {
-          sim = σ .noteAt _ _ _ _ _ _ _ (l .line) (σ .unsettle _ _ _ c (g .goes .sim));
-          later = σ .later-trans _ _ _ (g .goes .later) (σ .later-trans _ _ _ (σ .unsettle-later _ _) (σ .noteAt-later _ _ _ _ _));
+          sim = σ .noteAt _ _ _ _ _ _ _ (l .line) (σ .dropLabel _ _ _ c (g .goes .sim));
+          later = σ .later-trans _ _ _ (g .goes .later) (σ .later-trans _ _ _ (σ .dropLabel-later _ _) (σ .noteAt-later _ _ _ _ _));
         };
-        fits = σ .noteAt-fits _ _ _ _ _ (σ .unsettle-fits _ _ (g .fits));
-        room = λ r. σ .noteAt-room _ _ _ _ _ (σ .unsettle-room _ _ (g .room r));
+        fits = σ .noteAt-fits _ _ _ _ _ (σ .dropLabel-fits _ _ (g .fits));
+        room = λ r. σ .noteAt-room _ _ _ _ _ (σ .dropLabel-room _ _ (g .room r));
       }
 
   sim-settle-jump : {w u : T} {s : S} {ms ns : List Mark} (k : ℕ) → MarksGo w ms ns → Stays w s u

@@ -16,8 +16,8 @@ use Rattle.rules.specs.declared.types.«Type».the-variants.{Integer, Re
 use Rattle.rules.specs.Types.{matchesType, exactMatches}
 use Rattle.rules.specs.Tables.{drawArity, drawn, operand, signatureOf, wanted, everyReal, spc}
 use Rattle.rules.specs.Expr.{Sym, textSize, addError}
-use Rattle.rules.specs.Stmt.{byteOf, isIdent, datumLength, targetLabel, targetRange, labelOr0, isValue, isFile, nextRange, isTabSpc, flagOf, isLast, surplusNotes, drawNode, datumNode, compileData, endDef, defNode, compileDef, dimNode, dimOne, compileDim, placeTyped, compileFields, compileField, compileStep, forNode, compileFor, waitingJump, compileGo, compileRestore, inputArgBy, fnPlace, fnInput, inputVar, inputVars, inputSource, compileInput, assignCall, assignNode, compileLet, badByte, badBytes, allBytes, loadByte, loadBytes, loadNode, compileLoad, locatePart, compileLocate, nextBy, nextOne, nextEach, compileNext, onJumps, compileOn, openNode, compileOpen, tabCall, printValue, behindValue, printOne, printEach, emptyLine, compilePrint, compileRead, compileSwap, compileWhile, writeValue, writeEach, compileWrite, endHere, compileStmt, compileStmts}
-use Rattle.rules.proofs.SimExpr.{Goes, GoesNamed, GoesSym, start, over, plain, numbering, numbering-both, placing, noted, pick-goes, number-then, place-then, sim-sym, sim-check, sim-real-sym, sim-text, sim-func-name, sim-expr, sim-args, sim-typed, sim-lvalue}
+use Rattle.rules.specs.Stmt.{byteOf, isIdent, datumLength, targetLabel, targetRange, labelOr0, isValue, isFile, nextRange, isTabSpc, flagOf, isLast, surplusNotes, drawNode, datumNode, compileData, endDef, defNode, compileDef, dimNode, dimOne, compileDim, placeTyped, compileFields, compileField, compileStep, forNode, compileFor, pendingJump, compileGo, compileRestore, inputArgBy, fnPlace, fnInput, inputVar, inputVars, inputSource, compileInput, assignCall, assignNode, compileLet, badByte, badBytes, allBytes, loadByte, loadBytes, loadNode, compileLoad, locatePart, compileLocate, nextBy, nextOne, nextEach, compileNext, onJumps, compileOn, openNode, compileOpen, tabCall, printValue, behindValue, printOne, printEach, emptyLine, compilePrint, compileRead, compileSwap, compileWhile, writeValue, writeEach, compileWrite, endHere, compileStmt, compileStmts}
+use Rattle.rules.proofs.SimExpr.{Goes, GoesNamed, GoesSym, start, over, plain, numbering, numbering-both, placing, noted, pick-goes, number-then, place-then, sim-sym, sim-check, sim-real-sym, sim-text, sim-opt-real-sym, sim-expr, sim-args, sim-typed, sim-lvalue}
 
 -- one of two calls, none of them a WHILE's
 fresh-pick : (b : Bool) (k l n : ℕ) → fresh k n ≡ true → fresh l n ≡ true → fresh (pick b k l) n ≡ true
@@ -70,8 +70,8 @@ module _ {S T : Type 0} {R : Recorder S} {Q : Recorder T} (σ : Simulation R Q) 
   sim-def : {w u : T} {s : S} (r : Range) (n p : Opt Range) (e : Expr) → Goes σ w s u → Goes σ w (compileDef R t base r n p e s) (compileDef Q t base r n p e u)
   unfolding compileDef
   sim-def r n p e g =
-      let x = sim-func-name σ t base n g in
-      let y = sim-func-name σ t base p (start (x .goes)) in
+      let x = sim-opt-real-sym σ t base n g in
+      let y = sim-opt-real-sym σ t base p (start (x .goes)) in
       over (x .goes) (sim-def-node n p r e (number-then (x .number) (y .goes)) (y .number) (y .goes))
 
   -- DIM
@@ -125,13 +125,13 @@ module _ {S T : Type 0} {R : Recorder S} {Q : Recorder T} (σ : Simulation R Q) 
       → Goes σ w (compileFor R t base r v a b e s) (compileFor Q t base r v a b e u)
   unfolding compileFor
   sim-for r v a b e g =
-      let y = sim-func-name σ t base v g in
+      let y = sim-opt-real-sym σ t base v g in
       let c = sim-step e (sim-typed σ t base Real b (sim-typed σ t base Real a (start (y .goes)))) in
       over (y .goes) (sim-for-node v r e (number-then (y .number) c) c)
 
   -- GOTO, GOSUB, RESTORE
   sim-waiting : {w u : T} {s : S} (sub : ℕ) (r : Range) (l : ℕ) (lr : Range) → Goes σ w s u
-      → Goes σ w (waitingJump R t base sub r l lr s) (waitingJump Q t base sub r l lr u)
+      → Goes σ w (pendingJump R t base sub r l lr s) (pendingJump Q t base sub r l lr u)
   sim-waiting sub r l lr g = plain (fresh-pick (eqb sub 1) 21 20 (l + 1) refl refl) g
 
   sim-go : {w u : T} {s : S} (r : Range) (sub : ℕ) (x : Opt Target) → Goes σ w s u → Goes σ w (compileGo R t base r sub x s) (compileGo Q t base r sub x u)
@@ -157,7 +157,7 @@ module _ {S T : Type 0} {R : Recorder S} {Q : Recorder T} (σ : Simulation R Q) 
       → Goes σ w (fnInput R t base b r f e s) (fnInput Q t base b r f e u)
   sim-fn-input true r f e g = noted g
   sim-fn-input false r f e g =
-      let x = sim-func-name σ t base f g in
+      let x = sim-opt-real-sym σ t base f g in
       let y = sim-input-arg (isIdent e) e (start (x .goes)) in
       over (x .goes) (sim-fn-place f (isIdent e) r (number-then (x .number) (y .goes)) (y .number) (y .goes))
 

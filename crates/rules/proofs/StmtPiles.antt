@@ -18,11 +18,11 @@ use Rattle.rules.specs.declared.types.«Type».{«Type» as Ty}
 use Rattle.rules.specs.declared.types.«Type».the-variants.{Integer, Real, String, Error}
 use Rattle.rules.specs.Types.{matchesType, exactMatches, typeNumber}
 use Rattle.rules.specs.Tables.{signatures, signatureOf, wanted, tab, spc, realOfReal}
-use Rattle.rules.specs.Expr.{Out, compileSym, funcName, realSym, textNode, compileExpr, compileArgs, compileTyped, compileLvalue}
+use Rattle.rules.specs.Expr.{Out, compileSym, optRealSym, realSym, textNode, compileExpr, compileArgs, compileTyped, compileLvalue}
 use Rattle.rules.specs.Stmt
 use Rattle.rules.specs.Missing.{All, Present, IfGiven, WholeExpr, WholeExprs, WholeElement, WholeSource, WholeWrite, valueCalls, endsWell}
 use Rattle.rules.specs.Piles.{num, txt, plc, Pile, Want, aText, anyPlace, fits, taken, kindOf, numbers, wantsOf, step}
-use Rattle.rules.proofs.PileLaws.{Flow, Side, Jumps, isJumpCall, Never, Plain, plain-one, plainCall, flow-append}
+use Rattle.rules.proofs.PileLaws.{Flow, Side, Jumps, isJumpCall, Never, Plain, plain-one, plainCall, flow-append, Turns}
 use Rattle.rules.proofs.Grown.{Code, seq, put, stay, emits, fails, warns, void, with-ok, dooms}
 use Rattle.rules.proofs.ExprPiles.{Proper, same-kind, Clear, argPile, taken-numbers, Few, Known, Typed, number-step, sym-code, real-code, name-code, text-code, expr-code, args-code}
 use Rattle.rules.proofs.Blocks.{solo}
@@ -85,9 +85,6 @@ module _ (E : List Entry) (few : Few E) (t : List ℕ) (base : ℕ) where
   abbrev R : Recorder Ideal
   R = rulesR t
 
-  abbrev Tn : (Pile → Pile) → (Pile → Pile) → List Rec → Type 0
-  Tn f g xs = (P : Pile) → Plain E xs (f P) (g P)
-
   abbrev Fl : List Rec → Type 0
   Fl xs = Plain E xs [] []
 
@@ -113,20 +110,20 @@ module _ (E : List Entry) (few : Few E) (t : List ℕ) (base : ℕ) where
   unfolding step wantsOf
   for-step l r n e = rw (taken-numbers (2 + Stmt.stepFlag e) []) refl
 
-  step-code : (e : Opt Expr) (i : Ideal) → Code E 0 i (Stmt.compileStep R t base e i) (IfGiven WholeExpr e) (Tn (λ P. num ∷ num ∷ P) (λ P. replicate (2 + Stmt.stepFlag e) num ++ P))
-  step-code absent i = stay E i (Unit {0}) (Tn (λ P. num ∷ num ∷ P) (λ P. num ∷ num ∷ P)) (λ w P. Flow.done)
+  step-code : (e : Opt Expr) (i : Ideal) → Code E 0 i (Stmt.compileStep R t base e i) (IfGiven WholeExpr e) (Turns E (λ P. num ∷ num ∷ P) (λ P. replicate (2 + Stmt.stepFlag e) num ++ P))
+  step-code absent i = stay E i (Unit {0}) (Turns E (λ P. num ∷ num ∷ P) (λ P. num ∷ num ∷ P)) (λ w P. Flow.done)
   step-code (given e) i = pushed-on E few t base (λ P. num ∷ num ∷ P) Real tt e i
 
   for-body : (r : Range) (v : Opt Range) (a b : Expr) (e : Opt Expr) (i : Ideal)
-      → Code E 1 i (Stmt.compileStep R t base e (compileTyped R t base Real b (compileTyped R t base Real a (funcName R t base v i .state))))
-      (WholeExpr a × WholeExpr b × IfGiven WholeExpr e) (Tn (λ P. P) (λ P. replicate (2 + Stmt.stepFlag e) num ++ P))
+      → Code E 1 i (Stmt.compileStep R t base e (compileTyped R t base Real b (compileTyped R t base Real a (optRealSym R t base v i .state))))
+      (WholeExpr a × WholeExpr b × IfGiven WholeExpr e) (Turns E (λ P. P) (λ P. replicate (2 + Stmt.stepFlag e) num ++ P))
   for-body r v a b e i =
-      let j = funcName R t base v i .state in
+      let j = optRealSym R t base v i .state in
       let m = compileTyped R t base Real a j in
       let n = compileTyped R t base Real b m in
       let W = WholeExpr a × WholeExpr b × IfGiven WholeExpr e in
-      seq E {d₁ = 1} {d₂ = 0} {W = W} {A = Tn (λ P. P) (λ P. num ∷ num ∷ P)} {B = Tn (λ P. num ∷ num ∷ P) (λ P. replicate (2 + Stmt.stepFlag e) num ++ P)} {C = Tn (λ P. P) (λ P. replicate (2 + Stmt.stepFlag e) num ++ P)}
-      (seq E {d₁ = 1} {d₂ = 0} {W₁ = Unit {0}} {W = WholeExpr a × WholeExpr b} {A = Nothing} {B = Tn (λ P. P) (λ P. num ∷ num ∷ P)} {C = Tn (λ P. P) (λ P. num ∷ num ∷ P)} (name-code E few t base v i)
+      seq E {d₁ = 1} {d₂ = 0} {W = W} {A = Turns E (λ P. P) (λ P. num ∷ num ∷ P)} {B = Turns E (λ P. num ∷ num ∷ P) (λ P. replicate (2 + Stmt.stepFlag e) num ++ P)} {C = Turns E (λ P. P) (λ P. replicate (2 + Stmt.stepFlag e) num ++ P)}
+      (seq E {d₁ = 1} {d₂ = 0} {W₁ = Unit {0}} {W = WholeExpr a × WholeExpr b} {A = Nothing} {B = Turns E (λ P. P) (λ P. num ∷ num ∷ P)} {C = Turns E (λ P. P) (λ P. num ∷ num ∷ P)} (name-code E few t base v i)
       (two E few t base (λ P. P) (λ P. num ∷ P) (λ P. num ∷ num ∷ P) (pushed E few t base Real tt a j) (pushed-on E few t base (λ P. num ∷ P) Real tt b m)) (λ w. tt) (λ w. w) (λ xs ys u v P. rw u (v P)))
       (step-code e n) (λ w. (w .0, w .1)) (λ w. w .2) (λ xs ys u v P. flow-append (u P) (v P))
 
@@ -185,7 +182,7 @@ module _ (E : List Entry) (few : Few E) (t : List ℕ) (base : ℕ) where
   jumps-code sub [] i = stay E i (Unit {0}) (Jumping 0) (λ w. (tt, Flow.done))
   jumps-code sub (g ∷ gs) i =
       jump-of sub unknown (Stmt.labelOr0 (g .label)) (pack (g .range)) (length gs) (g .range) i _
-      (jumps-code sub gs (Stmt.waitingJump R t base sub (g .range) (Stmt.labelOr0 (g .label)) (g .range) i))
+      (jumps-code sub gs (Stmt.pendingJump R t base sub (g .range) (Stmt.labelOr0 (g .label)) (g .range) i))
 
   on-step : (l : ℕ) (r : Range) (n : ℕ) → step E (rec 22 l r n 0 0) (num ∷ []) ≡ given []
   unfolding step wantsOf taken
@@ -200,7 +197,7 @@ module _ (E : List Entry) (few : Few E) (t : List ℕ) (base : ℕ) where
       let rest : Code E 0 j (Stmt.onJumps R t base sub gs m) (Unit {0}) (λ xs. Plain E xs (num ∷ []) []) =
       seq E {d₁ = 0} {d₂ = 0} {W₁ = Unit {0}} {W₂ = Unit {0}} {A = λ xs. xs ≡ q ∷ []} {B = Jumping (length gs)} {C = λ xs. Plain E xs (num ∷ []) []} (emits E j q (Unit {0}) (λ xs. xs ≡ q ∷ []) (λ w. refl)) (jumps-code sub gs m) (λ w. w) (λ w. w)
       (λ xs ys u v. rw u (Flow.go (on-step (j .line) r (length gs)) (record { quiet = λ z. refl; fixed = tt; body = λ z. absurd (omega arith); on = λ z. v .0 }) (v .1))) in
-      seq E {d₁ = 0} {d₂ = 0} {W₂ = Unit {0}} {W = WholeExpr e} {A = Tn (λ P. P) (λ P. num ∷ P)} {B = λ xs. Plain E xs (num ∷ []) []} {C = Fl} (pushed E few t base Real tt e i) rest (λ w. w) (λ w. tt) (λ xs ys u v. flow-append (u []) v)
+      seq E {d₁ = 0} {d₂ = 0} {W₂ = Unit {0}} {W = WholeExpr e} {A = Turns E (λ P. P) (λ P. num ∷ P)} {B = λ xs. Plain E xs (num ∷ []) []} {C = Fl} (pushed E few t base Real tt e i) rest (λ w. w) (λ w. tt) (λ xs ys u v. flow-append (u []) v)
 
   -- RESTORE
   restore-step : (l : ℕ) (r : Range) (a b c : ℕ) → Fl (rec 31 l r a b c ∷ [])
@@ -215,11 +212,11 @@ module _ (E : List Entry) (few : Few E) (t : List ℕ) (base : ℕ) where
   abbrev Places : ℕ → List Rec → Type 0
   Places n xs = (P : Pile) → Reaches E xs P (Over n P)
 
-  fn-step : (l : ℕ) (r : Range) (n a : ℕ) → Tn (λ P. P) (λ P. plc Real ∷ P) (rec 9 l r n a 0 ∷ [])
+  fn-step : (l : ℕ) (r : Range) (n a : ℕ) → Turns E (λ P. P) (λ P. plc Real ∷ P) (rec 9 l r n a 0 ∷ [])
   unfolding step wantsOf taken
   fn-step l r n a P = plain-one E (rec 9 l r n a 0) P (plc Real ∷ P) refl refl
 
-  one-place : (x : Ty) (xs : List Rec) → Tn (λ P. P) (λ P. plc x ∷ P) xs → Places 1 xs
+  one-place : (x : Ty) (xs : List Rec) → Turns E (λ P. P) (λ P. plc x ∷ P) xs → Places 1 xs
   one-place x xs a P = record { top = plc x ∷ P; said = (x, P, refl, refl); flow = a P }
 
   input-fn : (r : Range) (f : Opt Range) (e : Expr) (i : Ideal) → Code E 0 i (Stmt.inputFn R t base r f e i) (Present f) (Places 1)
@@ -307,7 +304,7 @@ module _ (E : List Entry) (few : Few E) (t : List ℕ) (base : ℕ) where
       let m = compileTyped R t base Real e j in
       let A : List Rec → Type 0 = λ xs. Reaches E xs [] (λ Q. (U : Pile) × (Q ≡ num ∷ U) × Over n [] U) in
       put E {d = 0} {W = W × WholeExpr e} {A = A} {C = Fl}
-      (seq E {d₁ = 0} {d₂ = 0} {W = W × WholeExpr e} {A = Places n} {B = Tn (λ P. P) (λ P. num ∷ P)} {C = A} a (pushed E few t base Real tt e j) (λ w. w .0) (λ w. w .1)
+      (seq E {d₁ = 0} {d₂ = 0} {W = W × WholeExpr e} {A = Places n} {B = Turns E (λ P. P) (λ P. num ∷ P)} {C = A} a (pushed E few t base Real tt e j) (λ w. w .0) (λ w. w .1)
       (λ xs ys u v. record { top = num ∷ u [] .top; said = (u [] .top, refl, u [] .said); flow = flow-append (u [] .flow) (v (u [] .top)) }))
       (omega arith) (rec 33 (m .line) r n 0 0)
       (λ xs u. flow-append (u .flow) (plain-one E (rec 33 (m .line) r n 0 0) (u .top) [] refl (rw (u .said .1) (file-step (m .line) r n [] (u .said .0) (u .said .2)))))
@@ -338,10 +335,10 @@ module _ (E : List Entry) (few : Few E) (t : List ℕ) (base : ℕ) where
   fit-code true r i = stay E i (Unit {0}) _ (λ w. (refl, refl))
   fit-code false r i = fails E i 4 (i .line) r 0 (Unit {0}) _
 
-  store-of : (l : ℕ) (r : Range) (x y : Ty) (c : ℕ) → Assigns x c → (xs : List Rec) → (xs ≡ []) × (matchesType x y ≡ true) → Proper x → Proper y → Tn (λ P. kindOf y ∷ plc x ∷ P) (λ P. P) (xs ++ (rec c l r 0 0 0 ∷ []))
+  store-of : (l : ℕ) (r : Range) (x y : Ty) (c : ℕ) → Assigns x c → (xs : List Rec) → (xs ≡ []) × (matchesType x y ≡ true) → Proper x → Proper y → Turns E (λ P. kindOf y ∷ plc x ∷ P) (λ P. P) (xs ++ (rec c l r 0 0 0 ∷ []))
   store-of l r x y c a xs u p q P = rw (u .0) (plain-one E (rec c l r 0 0 0) (kindOf y ∷ plc x ∷ P) P (assign-plain x c a) (assign-step l r x y p q (u .1) c a P))
 
-  store-code : (r : Range) (x y : Ty) (i : Ideal) → Code E 0 i (Stmt.assignNode R t base r x y i) (Unit {0}) (λ xs. Proper x → Proper y → Tn (λ P. kindOf y ∷ plc x ∷ P) (λ P. P) xs)
+  store-code : (r : Range) (x y : Ty) (i : Ideal) → Code E 0 i (Stmt.assignNode R t base r x y i) (Unit {0}) (λ xs. Proper x → Proper y → Turns E (λ P. kindOf y ∷ plc x ∷ P) (λ P. P) xs)
   unfolding Stmt.assignNode
   store-code r Integer y i = put E {d = 0} {A = λ xs. (xs ≡ []) × (matchesType Integer y ≡ true)} (fit-code (matchesType Integer y) r i) (omega arith) (rec 16 _ r 0 0 0) (store-of _ r Integer y 16 refl)
   store-code r Real y i = put E {d = 0} {A = λ xs. (xs ≡ []) × (matchesType Real y ≡ true)} (fit-code (matchesType Real y) r i) (omega arith) (rec 17 _ r 0 0 0) (store-of _ r Real y 17 refl)
@@ -354,8 +351,8 @@ module _ (E : List Entry) (few : Few E) (t : List ℕ) (base : ℕ) where
       let p = compileLvalue R t base a i in
       let q = compileExpr R t base b (p .state) in
       let W = (WholeExpr a × IsPlace a) × WholeExpr b in
-      let A : List Rec → Type 0 = λ xs. Proper (p .ty) × Proper (q .ty) × Tn (λ P. P) (λ P. kindOf (q .ty) ∷ plc (p .ty) ∷ P) xs in
-      seq E {d₁ = 0} {d₂ = 0} {W₂ = Unit {0}} {W = W} {A = A} {B = λ xs. Proper (p .ty) → Proper (q .ty) → Tn (λ P. kindOf (q .ty) ∷ plc (p .ty) ∷ P) (λ P. P) xs} {C = Fl}
+      let A : List Rec → Type 0 = λ xs. Proper (p .ty) × Proper (q .ty) × Turns E (λ P. P) (λ P. kindOf (q .ty) ∷ plc (p .ty) ∷ P) xs in
+      seq E {d₁ = 0} {d₂ = 0} {W₂ = Unit {0}} {W = W} {A = A} {B = λ xs. Proper (p .ty) → Proper (q .ty) → Turns E (λ P. kindOf (q .ty) ∷ plc (p .ty) ∷ P) (λ P. P) xs} {C = Fl}
       (seq E {d₁ = 0} {d₂ = 0} {W = W} {A = Pla (p .ty)} {B = Typ (q .ty)} {C = A} (place-code E few t base a i) (expr-code E few t base b (p .state)) (λ w. w .0) (λ w. w .1)
       (λ xs ys u v. (u .proper, v .proper, λ P. flow-append (u .flow P) (v .flow (plc (p .ty) ∷ P)))))
       (store-code r (p .ty) (q .ty) (q .state)) (λ w. w) (λ w. tt) (λ xs ys u v. flow-append (u .2 []) (v (u .0) (u .1) []))
@@ -372,7 +369,7 @@ module _ (E : List Entry) (few : Few E) (t : List ℕ) (base : ℕ) where
       let q = compileLvalue R t base b (p .state) in
       let j = pick (exactMatches (p .ty) (q .ty)) (q .state) (R .note (q .state) 4 r 1) in
       let W = (WholeExpr a × IsPlace a) × (WholeExpr b × IsPlace b) in
-      let A : List Rec → Type 0 = λ xs. Tn (λ P. P) (λ P. plc (q .ty) ∷ plc (p .ty) ∷ P) xs in
+      let A : List Rec → Type 0 = λ xs. Turns E (λ P. P) (λ P. plc (q .ty) ∷ plc (p .ty) ∷ P) xs in
       let B : List Rec → Type 0 = λ xs. A xs × (exactMatches (p .ty) (q .ty) ≡ true) in
       put E {d = 0} {W = W} {A = B} {C = Fl}
       (seq E {d₁ = 0} {d₂ = 0} {W₂ = Unit {0}} {W = W} {A = A} {B = λ xs. (xs ≡ []) × (exactMatches (p .ty) (q .ty) ≡ true)} {C = B}
@@ -453,23 +450,23 @@ module _ (E : List Entry) (few : Few E) (t : List ℕ) (base : ℕ) where
   len-notes true r i = fails E i 12 (i .line) r 0 (Unit {0}) Nothing
   len-notes false r i = stay E i (Unit {0}) Nothing (λ w. refl)
 
-  open-node : {W : Type 0} (r : Range) (m : ℕ) (o : Opt Len) (i j : Ideal) → Code E 0 i j W (Tn (λ P. P) (λ P. num ∷ txt ∷ P)) → Code E 0 i (Stmt.openNode R t base r m o j) (W × (m ≡ 0 → ⊥) × IfGiven (λ (x : Len). WholeExpr (x .value)) o) Fl
+  open-node : {W : Type 0} (r : Range) (m : ℕ) (o : Opt Len) (i j : Ideal) → Code E 0 i j W (Turns E (λ P. P) (λ P. num ∷ txt ∷ P)) → Code E 0 i (Stmt.openNode R t base r m o j) (W × (m ≡ 0 → ⊥) × IfGiven (λ (x : Len). WholeExpr (x .value)) o) Fl
   open-node {W} r m absent i j a =
       with-ok E {W = W} {A = Fl} 0 (omega arith) (closes E few t base (λ P. num ∷ txt ∷ P) a (omega arith) (rec 34 (j .line) r m 0 0) refl (open-step (j .line) r m 0)) (λ w. w .0) (λ w xs u. u)
   open-node {W} r m (given o) i j a =
       let n = Stmt.lenNotes R t base m (o .range) j in
       let u = compileTyped R t base Real (o .value) n in
       let W′ = W × (m ≡ 0 → ⊥) × WholeExpr (o .value) in
-      let it : Code E 0 i u W′ (Tn (λ P. P) (λ P. num ∷ num ∷ txt ∷ P)) =
-      seq E {d₁ = 0} {d₂ = 0} {W = W′} {A = Tn (λ P. P) (λ P. num ∷ txt ∷ P)} {B = Tn (λ P. num ∷ txt ∷ P) (λ P. num ∷ num ∷ txt ∷ P)} {C = Tn (λ P. P) (λ P. num ∷ num ∷ txt ∷ P)}
-      (seq E {d₁ = 0} {d₂ = 0} {W₂ = Unit {0}} {W = W} {A = Tn (λ P. P) (λ P. num ∷ txt ∷ P)} {B = Nothing} {C = Tn (λ P. P) (λ P. num ∷ txt ∷ P)} a (len-notes (ltb 1 m) (o .range) j) (λ w. w) (λ w. tt) (λ xs ys x y P. rw (y, append-nil xs) (x P)))
+      let it : Code E 0 i u W′ (Turns E (λ P. P) (λ P. num ∷ num ∷ txt ∷ P)) =
+      seq E {d₁ = 0} {d₂ = 0} {W = W′} {A = Turns E (λ P. P) (λ P. num ∷ txt ∷ P)} {B = Turns E (λ P. num ∷ txt ∷ P) (λ P. num ∷ num ∷ txt ∷ P)} {C = Turns E (λ P. P) (λ P. num ∷ num ∷ txt ∷ P)}
+      (seq E {d₁ = 0} {d₂ = 0} {W₂ = Unit {0}} {W = W} {A = Turns E (λ P. P) (λ P. num ∷ txt ∷ P)} {B = Nothing} {C = Turns E (λ P. P) (λ P. num ∷ txt ∷ P)} a (len-notes (ltb 1 m) (o .range) j) (λ w. w) (λ w. tt) (λ xs ys x y P. rw (y, append-nil xs) (x P)))
       (pushed-on E few t base (λ P. num ∷ txt ∷ P) Real tt (o .value) n) (λ w. w .0) (λ w. w .2) (λ xs ys x y P. flow-append (x P) (y P)) in
       go (eqb m 0) refl it
     where
       n : Ideal
       n = compileTyped R t base Real (o .value) (Stmt.lenNotes R t base m (o .range) j)
 
-      go : (b : Bool) → eqb m 0 ≡ b → Code E 0 i n (W × (m ≡ 0 → ⊥) × WholeExpr (o .value)) (Tn (λ P. P) (λ P. num ∷ num ∷ txt ∷ P)) → Code E 0 i (pick b n (R .emit n 34 r m 1 0)) (W × (m ≡ 0 → ⊥) × WholeExpr (o .value)) Fl
+      go : (b : Bool) → eqb m 0 ≡ b → Code E 0 i n (W × (m ≡ 0 → ⊥) × WholeExpr (o .value)) (Turns E (λ P. P) (λ P. num ∷ num ∷ txt ∷ P)) → Code E 0 i (pick b n (R .emit n 34 r m 1 0)) (W × (m ≡ 0 → ⊥) × WholeExpr (o .value)) Fl
       go true e c = void E 0 (W × (m ≡ 0 → ⊥) × WholeExpr (o .value)) Fl (λ w. w .1 (eqb-true m 0 e)) c
       go false e c = closes E few t base (λ P. num ∷ num ∷ txt ∷ P) c (omega arith) (rec 34 (n .line) r m 1 0) refl (open-step (n .line) r m 1)
 
@@ -534,7 +531,7 @@ module _ (E : List Entry) (few : Few E) (t : List ℕ) (base : ℕ) where
   unfolding Stmt.compileLoad
   load-code r none i = stay E i (Unit {0}) Fl (λ w. Flow.done)
   load-code r (more e es) i =
-      seq E {d₁ = 0} {d₂ = 0} {W₂ = Unit {0}} {W = WholeExpr e × WholeExprs es} {A = Tn (λ P. P) (λ P. num ∷ P)} {B = λ xs. Plain E xs (num ∷ []) []} {C = Fl} (pushed E few t base Real tt e i)
+      seq E {d₁ = 0} {d₂ = 0} {W₂ = Unit {0}} {W = WholeExpr e × WholeExprs es} {A = Turns E (λ P. P) (λ P. num ∷ P)} {B = λ xs. Plain E xs (num ∷ []) []} {C = Fl} (pushed E few t base Real tt e i)
       (load-node r es (compileTyped R t base Real e i)) (λ w. w .0) (λ w. tt) (λ xs ys u v. flow-append (u []) v)
 
   -- PRINT
@@ -560,7 +557,7 @@ module _ (E : List Entry) (few : Few E) (t : List ℕ) (base : ℕ) where
   tab-step true l r = plain-one E (rec 40 l r 0 0 0) (num ∷ []) [] refl (one-step 40 l r (inr (inr (inl refl))) [])
   tab-step false l r = plain-one E (rec 41 l r 0 0 0) (num ∷ []) [] refl (one-step 41 l r (inr (inr (inr refl))) [])
 
-  one-arg : (k n : ℕ) → signatureOf k ≡ realOfReal → n ≡ 1 → (xs : List Rec) → (Clear (wanted (signatureOf k .args)) 0 n → Tn (λ P. P) (argPile (wanted (signatureOf k .args)) 0 n) xs) → Plain E xs [] (num ∷ [])
+  one-arg : (k n : ℕ) → signatureOf k ≡ realOfReal → n ≡ 1 → (xs : List Rec) → (Clear (wanted (signatureOf k .args)) 0 n → Turns E (λ P. P) (argPile (wanted (signatureOf k .args)) 0 n) xs) → Plain E xs [] (num ∷ [])
   one-arg k n e q xs = rw (e, q) (λ a. a (tt, tt) [])
 
   filled-count : (es : Exprs) → Filled es → 1 ≤ count es
@@ -573,7 +570,7 @@ module _ (E : List Entry) (few : Few E) (t : List ℕ) (base : ℕ) where
       let j = Stmt.surplusNotes R t base 1 es i in
       let m = compileArgs R t base (wanted (signatureOf k .args)) 0 es j in
       let W = WholeExprs es × Filled es in
-      let A : List Rec → Type 0 = λ xs. Clear (wanted (signatureOf k .args)) 0 (count es) → Tn (λ P. P) (argPile (wanted (signatureOf k .args)) 0 (count es)) xs in
+      let A : List Rec → Type 0 = λ xs. Clear (wanted (signatureOf k .args)) 0 (count es) → Turns E (λ P. P) (argPile (wanted (signatureOf k .args)) 0 (count es)) xs in
       put E {d = 0} {W = W} {A = λ xs. Plain E xs [] (num ∷ [])} {C = Fl}
       (with-ok E {W = WholeExprs es} {A = λ xs. (count es ≤ 1) × A xs} 0 (omega arith)
       (seq E {d₁ = 0} {d₂ = 0} {W₁ = Unit {0}} {W = WholeExprs es} {A = λ xs. (xs ≡ []) × (count es ≤ 1)} {B = A} {C = λ xs. (count es ≤ 1) × A xs} (surplus-code E few t base 1 es i) (args-code E few t base (wanted (signatureOf k .args)) 0 es j) (λ w. tt) (λ w. w)
@@ -741,6 +738,6 @@ module _ (E : List Entry) (few : Few E) (t : List ℕ) (base : ℕ) where
       (omega arith) (rec 43 (j .line) r 0 0 0) (λ xs u. flow-append u (none-step 43 (j .line) r (inr refl)))
   write-code r (given e) ds i =
       let W = (WholeExpr e × (endsWell (valueCalls 1 ds) ≡ true)) × All WholeDatum ds in
-      seq E {d₁ = 0} {d₂ = 0} {W₂ = W} {W = W} {A = Tn (λ P. P) (λ P. num ∷ P)} {B = λ xs. Plain E xs (num ∷ []) []} {C = Fl} (pushed E few t base Real tt e i)
+      seq E {d₁ = 0} {d₂ = 0} {W₂ = W} {W = W} {A = Turns E (λ P. P) (λ P. num ∷ P)} {B = λ xs. Plain E xs (num ∷ []) []} {C = Fl} (pushed E few t base Real tt e i)
       (with-ok E {A = λ xs. Plain E xs (num ∷ []) (left 1 ds)} 0 (omega arith) (writes-code 1 ds (compileTyped R t base Real e i) (inr refl)) (λ w. w .1) (λ w xs u. rw (file-left ds (w .0 .1)) at u))
       (λ w. w .0 .0) (λ w. w) (λ xs ys u v. flow-append (u []) v)

@@ -12,7 +12,7 @@ use Rattle.recorder.specs.declared.word.Range.{Range}
 use Rattle.recorder.specs.Recorder.{Recorder, unknown}
 use Rattle.recorder.specs.Ideal.{Rec, rec, Ideal, ideal, change, withA, withC, Search, missing, found, findName, symbolIn, symbolOf}
 use Rattle.recorder.specs.Closing.{rulesR, recAt, endRec}
-use Rattle.sheet.specs.Tree.{Opt, absent, given, Expr, exprRange, WriteElement, Stmt, rem, op₀, op₁, op₂, op₃, draw, set, dataList, def, dim, field, for, go, ifThen, ifElse, input, assign, load, locate, next-of, on, open-file, print, read, restore, swap, system, while, write, Stmts, end, then, Labelled, ProgramLine, programAt}
+use Rattle.sheet.specs.Tree.{Opt, absent, given, Expr, exprRange, WriteElement, Stmt, rem, op₀, op₁, op₂, op₃, draw, set, dataList, def, dim, field, for, go, ifThen, ifElse, input, assign, load, locate, next-of, on, open-file, print, read, restore, swap, system, while, write, Stmts, end, then, Target, ProgramLine, programAt}
 use Rattle.rules.specs.declared.types.«Type».{«Type» as Ty}
 use Rattle.rules.specs.declared.types.«Type».the-variants.{Real}
 use Rattle.rules.specs.Types.{matchesType}
@@ -21,7 +21,8 @@ use Rattle.rules.specs.Stmt.{flagOf, isLast, writeValue, writeEach, ifJu
 use Rattle.rules.specs.Program.{Lines, labelNote, lineBegun, firstLine, compileLine, compileLines, closeUp}
 use Rattle.rules.specs.Outcome.{Lengths, outcome, compiled, finished}
 use Rattle.rules.specs.Missing.{All, WriteCall, writeCall, valueCalls, endsWell}
-use Rattle.rules.specs.Writes.{isWriteCall, writeCalls, Written, fileFlag, written, stmtWrites, stmtsWrites, linesWrites, writes, callsIn, callsOf, Ends, EndsThere}
+use Rattle.rules.specs.Each.{eachStmt, eachStmts, eachLines}
+use Rattle.rules.specs.Writes.{isWriteCall, writeCalls, Written, fileFlag, written, writeOf, writes, callsIn, callsOf, Ends, EndsThere}
 use Rattle.rules.proofs.PileLaws.{all-append}
 use Rattle.rules.proofs.Kept
 use Rattle.rules.proofs.BlockPiles.{Some, FormedStmt, FormedStmts, stmt-code, stmts-code}
@@ -165,7 +166,7 @@ module _ (t : List ℕ) (base : ℕ) where
       rw n (from-calls (f .records) rs (length (i .records)) (length code) l a ∙ rw e (ap writeCalls (from-behind (i .records) code)) ∙ same-behind (writeCalls (i .records)) (writeCalls code) cs own)
 
   write-made : (r : Range) (f : Opt Expr) (ds : List WriteElement) (i : Ideal) (rs : List Rec) → Ahead (compileStmt R t base (write r f ds) i .records) rs
-      → Made i (compileStmt R t base (write r f ds) i) rs (stmtWrites t base (write r f ds) i) (Some ds)
+      → Made i (compileStmt R t base (write r f ds) i) rs (eachStmt t (writeOf t) base (write r f ds) i) (Some ds)
   unfolding callsOf
   write-made r f ds i rs a =
       let g = compileStmt R t base (write r f ds) i in
@@ -193,7 +194,7 @@ module _ (t : List ℕ) (base : ℕ) where
   mutual
     unfolding compileStmt compileStmts
 
-    stmt-made : (x : Stmt) (i : Ideal) (rs : List Rec) → Ahead (compileStmt R t base x i .records) rs → Made i (compileStmt R t base x i) rs (stmtWrites t base x i) (FormedStmt x)
+    stmt-made : (x : Stmt) (i : Ideal) (rs : List Rec) → Ahead (compileStmt R t base x i .records) rs → Made i (compileStmt R t base x i) rs (eachStmt t (writeOf t) base x i) (FormedStmt x)
     stmt-made (rem r) i rs h = none (keeps i .emit i 1 r 0 0 0 refl refl)
     stmt-made (op₀ k r) i rs h = none (keeps i .emit i 2 r k 0 0 refl refl)
     stmt-made (op₁ k r a) i rs h = none (Kept.keep-op₁ (keeps i) t base {s = i} k r a refl)
@@ -215,7 +216,7 @@ module _ (t : List ℕ) (base : ℕ) where
         let aimed = jump-aimed (v .records) (length (v .records)) (length (u .records)) first in
         let m = stmts-made xs j rs (ahead-then (ahead-same aimed) h) in
         record {
-          calls = same-calls (v .records) (change (withA (length (v .records))) (v .records) (length (u .records))) aimed ∙ m .calls ∙ behind (callsOf rs (stmtsWrites t base xs j)) (if-calls r e i);
+          calls = same-calls (v .records) (change (withA (length (v .records))) (v .records) (length (u .records))) aimed ∙ m .calls ∙ behind (callsOf rs (eachStmts t (writeOf t) base xs j)) (if-calls r e i);
           ends = m .ends;
         }
     stmt-made (ifElse r e xs ys) i rs h =
@@ -235,10 +236,10 @@ module _ (t : List ℕ) (base : ℕ) where
         let n = stmts-made ys g rs b in
         record {
           calls = same-calls (z .records) (change (withA (length (z .records))) (z .records) (length (v .records))) aimed₂ ∙ n .calls
-              ∙ behind (callsOf rs (stmtsWrites t base ys g))
-              (same-calls (k .records) (g .records) aimed ∙ silent-last (v .records) over refl ∙ m .calls ∙ behind (callsOf rs (stmtsWrites t base xs j)) (if-calls r e i))
-              ∙ both-calls (writeCalls (i .records)) rs (stmtsWrites t base xs j) (stmtsWrites t base ys g);
-          ends = λ w. all-append (Ends rs) (stmtsWrites t base xs j) (stmtsWrites t base ys g) (m .ends (w .0)) (n .ends (w .1));
+              ∙ behind (callsOf rs (eachStmts t (writeOf t) base ys g))
+              (same-calls (k .records) (g .records) aimed ∙ silent-last (v .records) over refl ∙ m .calls ∙ behind (callsOf rs (eachStmts t (writeOf t) base xs j)) (if-calls r e i))
+              ∙ both-calls (writeCalls (i .records)) rs (eachStmts t (writeOf t) base xs j) (eachStmts t (writeOf t) base ys g);
+          ends = λ w. all-append (Ends rs) (eachStmts t (writeOf t) base xs j) (eachStmts t (writeOf t) base ys g) (m .ends (w .0)) (n .ends (w .1));
         }
     stmt-made (input r src es) i rs h = none (Kept.keep-input (keeps i) t base {s = i} r src es refl)
     stmt-made (assign r a b) i rs h = none (Kept.keep-let (keeps i) t base {s = i} r a b refl)
@@ -255,15 +256,15 @@ module _ (t : List ℕ) (base : ℕ) where
     stmt-made (while r e) i rs h = none (Kept.keep-while (keeps i) t base {s = i} r e refl)
     stmt-made (write r f ds) i rs h = write-made r f ds i rs h
 
-    stmts-made : (xs : Stmts) (i : Ideal) (rs : List Rec) → Ahead (compileStmts R t base xs i .records) rs → Made i (compileStmts R t base xs i) rs (stmtsWrites t base xs i) (FormedStmts xs)
+    stmts-made : (xs : Stmts) (i : Ideal) (rs : List Rec) → Ahead (compileStmts R t base xs i .records) rs → Made i (compileStmts R t base xs i) rs (eachStmts t (writeOf t) base xs i) (FormedStmts xs)
     stmts-made end i rs a = none refl
     stmts-made (then x xs) i rs a =
         let j = compileStmt R t base x i in
         let m = stmt-made x i rs (ahead-then (stmts-ahead xs j) a) in
         let n = stmts-made xs j rs a in
         record {
-          calls = n .calls ∙ behind (callsOf rs (stmtsWrites t base xs j)) (m .calls) ∙ both-calls (writeCalls (i .records)) rs (stmtWrites t base x i) (stmtsWrites t base xs j);
-          ends = λ w. all-append (Ends rs) (stmtWrites t base x i) (stmtsWrites t base xs j) (m .ends (w .0)) (n .ends (w .1));
+          calls = n .calls ∙ behind (callsOf rs (eachStmts t (writeOf t) base xs j)) (m .calls) ∙ both-calls (writeCalls (i .records)) rs (eachStmt t (writeOf t) base x i) (eachStmts t (writeOf t) base xs j);
+          ends = λ w. all-append (Ends rs) (eachStmt t (writeOf t) base x i) (eachStmts t (writeOf t) base xs j) (m .ends (w .0)) (n .ends (w .1));
         }
 
 -- lines
@@ -275,13 +276,13 @@ module _ (t : List ℕ) where
       picked true r = refl
       picked false r = refl
 
-      go : (o : Opt Labelled) → writeCalls (labelNote (rulesR t) t (c .base) (c .last) o (rulesR t .beginLine (c .state) (c .line)) .records) ≡ writeCalls (c .state .records)
+      go : (o : Opt Target) → writeCalls (labelNote (rulesR t) t (c .base) (c .last) o (rulesR t .beginLine (c .state) (c .line)) .records) ≡ writeCalls (c .state .records)
       go absent = refl
       go (given l) = picked (ltb (l .label) (c .last)) (l .range)
 
   lines-made : (ls : List ProgramLine) (c : Lines Ideal) (rs : List Rec) → Ahead (compileLines (rulesR t) t ls c .state .records) rs
-      → Made (c .state) (compileLines (rulesR t) t ls c .state) rs (linesWrites t ls c) (Formed ls)
-  unfolding compileLines compileLine linesWrites callsOf
+      → Made (c .state) (compileLines (rulesR t) t ls c .state) rs (eachLines t (writeOf t) ls c) (Formed ls)
+  unfolding compileLines compileLine eachLines callsOf
   lines-made [] c rs a = record { calls = sym (append-nil (writeCalls (c .state .records))); ends = λ w. tt }
   lines-made (l ∷ ls) c rs a =
       let b = lineBegun (rulesR t) t c l in
@@ -290,9 +291,9 @@ module _ (t : List ℕ) where
       let m = stmts-made t (c .base) (l .stmts) b rs (ahead-then (ahead-more (compileLines (rulesR t) t ls d .state .records) (d .state .records) (k .code) (k .records)) a) in
       let n = lines-made ls d rs a in
       record {
-        calls = n .calls ∙ behind (callsOf rs (linesWrites t ls d)) (m .calls ∙ behind (callsOf rs (stmtsWrites t (c .base) (l .stmts) b)) (begun-calls c l))
-            ∙ both-calls (writeCalls (c .state .records)) rs (stmtsWrites t (c .base) (l .stmts) b) (linesWrites t ls d);
-        ends = λ w. all-append (Ends rs) (stmtsWrites t (c .base) (l .stmts) b) (linesWrites t ls d) (m .ends (w .0)) (n .ends (w .1));
+        calls = n .calls ∙ behind (callsOf rs (eachLines t (writeOf t) ls d)) (m .calls ∙ behind (callsOf rs (eachStmts t (writeOf t) (c .base) (l .stmts) b)) (begun-calls c l))
+            ∙ both-calls (writeCalls (c .state .records)) rs (eachStmts t (writeOf t) (c .base) (l .stmts) b) (eachLines t (writeOf t) ls d);
+        ends = λ w. all-append (Ends rs) (eachStmts t (writeOf t) (c .base) (l .stmts) b) (eachLines t (writeOf t) ls d) (m .ends (w .0)) (n .ends (w .1));
       }
 
 -- the clause about WRITE holds of no accepted sheet

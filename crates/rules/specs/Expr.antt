@@ -131,9 +131,9 @@ module _ {S : Type 0} (R : Recorder S) (t : List ℕ) (base : ℕ) where
   abbrev pub noSym : S → Named S
   noSym s = record { state = s; number = 0 }
 
-  abbrev pub funcName : Opt Range → S → Named S
-  funcName absent s = noSym s
-  funcName (given fr) s = realSym fr s
+  abbrev pub optRealSym : Opt Range → S → Named S
+  optRealSym absent s = noSym s
+  optRealSym (given fr) s = realSym fr s
 
   abbrev pub userCall : Opt Range → Range → ℕ → S → S
   userCall absent r n s = s
@@ -173,7 +173,7 @@ module _ {S : Type 0} (R : Recorder S) (t : List ℕ) (base : ℕ) where
     compileExpr (sysFuncCall r fr k es) s =
         funcNode k (count es) r (compileArgs (wanted (signatureOf k .args)) zero es (funcNotes k (count es) fr r s))
     compileExpr (userFuncCall r f e) s =
-        let y = funcName f s in
+        let y = optRealSym f s in
         after (compileExpr e (y .state)) (λ x u. out (userCall f r (y .number) (checkType Real (exprRange e) x u)) Real)
     compileExpr (binary r a o k b) s =
         after (compileExpr a s) (λ x u. after (compileExpr b u) (λ y v. binaryNode k r (exprRange a) o (exprRange b) x y v))

@@ -4,8 +4,9 @@ pub mod Tables
 pub mod Expr
 pub mod Stmt
 pub mod Program
+pub mod Each
 pub mod Outcome
-pub mod Held
+pub mod MemAnswer
 pub mod Missing
 pub mod Piles
 pub mod Demand

@@ -1,12 +1,12 @@
 -- What a call answers and leaves in the lent memory, for every sheet, text and lengths: document 01's rules, whole.
 use mathlib.Core.List.{List, []}
-use Prim.Native.Nat.{ℕ, _/_, min}
+use Prim.Native.Nat.{ℕ, _/_}
 use lib.Dec.{ltb}
 use lib.ListN.{length, replicate}
 use Rattle.recorder.specs.Word.{pick}
 use Rattle.recorder.specs.Ideal.{Ideal, ideal}
 use Rattle.recorder.specs.Closing.{rulesR}
-use Rattle.recorder.specs.Layout.{wordsOf, recWords, noteWords, entryWords, recSize, noteSize, entrySize, fill}
+use Rattle.recorder.specs.Layout.{wordsOf, recWords, noteWords, entryWords, noteSize, entrySize, mostRecords, fill}
 use Rattle.sheet.specs.declared.form.Checked.{Checked}
 use Rattle.sheet.specs.declared.form.Checked.the-variants.{Accepted, TooLong, Surrogate, WorkTooShort, Offends}
 use Rattle.sheet.specs.Check.{checked, refusalNumber, refusalPlace}
@@ -68,9 +68,6 @@ finished s t = closeUp (rulesR t) (compiled s t)
 
 -- 9: "List below five words a record, or more than 65,535 records." 10: "Notes below four words a note."
 -- 11: "Book below four words an entry." "The lowest number decides".
-abbrev pub mostRecords : ℕ → ℕ
-mostRecords n = min (n / recSize) 65535
-
 unfoldable pub sized : Ideal → Lengths → Outcome
 sized i L =
     pick (ltb (mostRecords (L .list)) (length (i .records))) (refused 9 0 L)
@@ -78,12 +75,16 @@ sized i L =
     (pick (ltb (L .book / entrySize) (length (i .entries))) (refused 11 0 L)
     (accepted i L)))
 
+-- 1 to 8
+abbrev pub refusedBy : Checked → Lengths → Outcome
+refusedBy c L = refused (refusalNumber c) (refusalPlace c) L
+
 abbrev pub outcomeBy : Checked → List ℕ → List ℕ → Lengths → Outcome
 outcomeBy Accepted s t L = sized (finished s t) L
-outcomeBy TooLong s t L = refused 1 0 L
-outcomeBy Surrogate s t L = refused 2 0 L
-outcomeBy WorkTooShort s t L = refused 3 0 L
-outcomeBy (Offends o) s t L = refused (refusalNumber (Offends o)) (refusalPlace (Offends o)) L
+outcomeBy TooLong s t L = refusedBy TooLong L
+outcomeBy Surrogate s t L = refusedBy Surrogate L
+outcomeBy WorkTooShort s t L = refusedBy WorkTooShort L
+outcomeBy (Offends o) s t L = refusedBy (Offends o) L
 
 unfoldable pub outcome : List ℕ → List ℕ → Lengths → Outcome
 outcome s t L = outcomeBy (checked s t (L .work)) s t L

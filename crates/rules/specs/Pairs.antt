@@ -77,13 +77,13 @@ pairs =
     (shown 0 [] ((1 ∷ 0 ∷ 0 ∷ []) ∷ (3 ∷ 132 ∷ 3489660928 ∷ []) ∷ (2 ∷ 65 ∷ 1 ∷ []) ∷ (1 ∷ 0 ∷ 0 ∷ []) ∷ []) (0 ∷ []))
     ∷ []
 
-abbrev pub callsOf : List Rec → List (List ℕ)
-callsOf [] = []
-callsOf (r ∷ []) = []
-callsOf (r ∷ x ∷ rs) = (r .call ∷ r .a ∷ r .b ∷ []) ∷ callsOf (x ∷ rs)
+abbrev pub callsShown : List Rec → List (List ℕ)
+callsShown [] = []
+callsShown (r ∷ []) = []
+callsShown (r ∷ x ∷ rs) = (r .call ∷ r .a ∷ r .b ∷ []) ∷ callsShown (x ∷ rs)
 
 abbrev pub shownOf : ℕ → Ideal → Shown
-shownOf k i = shown k (map (λ (n : Note). n .class) (i .notes)) (callsOf (i .records)) (map (λ (e : Entry). e .extra) (i .entries))
+shownOf k i = shown k (map (λ (n : Note). n .class) (i .notes)) (callsShown (i .records)) (map (λ (e : Entry). e .extra) (i .entries))
 
 -- what the rules give
 abbrev pub rulesShow : Pair → Shown

@@ -8,7 +8,7 @@ use Rattle.recorder.specs.Word.{pick, both, either}
 use Rattle.recorder.specs.Recorder.{Recorder, Look, unpack}
 use Rattle.recorder.specs.Ideal.{Search, missing, found}
 use Rattle.recorder.specs.Marks.{Mark, mark, addrOf, dataOf}
-use Rattle.sheet.specs.Tree.{Opt, absent, given, Labelled, ProgramLine}
+use Rattle.sheet.specs.Tree.{Opt, absent, given, Target, ProgramLine}
 use Rattle.rules.specs.Name.{textPlace}
 use Rattle.rules.specs.Expr.{addError}
 use Rattle.rules.specs.Stmt.{compileStmts}
@@ -22,11 +22,11 @@ pub record Lines (S : Type 0) : Type 0 where
   pub base : ℕ
   pub line : ℕ
 
-abbrev pub lastLabel : ℕ → Opt Labelled → ℕ
+abbrev pub lastLabel : ℕ → Opt Target → ℕ
 lastLabel last absent = last
 lastLabel last (given l) = l .label + 1
 
-abbrev pub marked : Opt Labelled → ℕ → ℕ → List Mark → List Mark
+abbrev pub marked : Opt Target → ℕ → ℕ → List Mark → List Mark
 marked absent addr first ms = ms
 marked (given l) addr first ms = ms ++ (mark (l .label) addr first ∷ [])
 
@@ -39,7 +39,7 @@ isPendingRestore q = both (ltb 0 (q .b)) (eqb (q .call) 31)
 
 module _ {S : Type 0} (R : Recorder S) (t : List ℕ) where
   -- "1 labels not rising": compared with the last label, a bad one too
-  abbrev pub labelNote : ℕ → ℕ → Opt Labelled → S → S
+  abbrev pub labelNote : ℕ → ℕ → Opt Target → S → S
   labelNote base last absent s = s
   labelNote base last (given l) s = pick (ltb (l .label) last) (addError R t base 1 (l .range) s) s
 
@@ -70,7 +70,7 @@ module _ {S : Type 0} (R : Recorder S) where
   -- found: the record gets it; missing: "2 target missing", or "3 RESTORE target missing (warning)"
   abbrev pub settleBy : Search → ℕ → ℕ → ℕ → Look → S → S
   settleBy (found v) class severity k q s = R .settle s k v
-  settleBy missing class severity k q s = R .noteAt (R .unsettle s k) (q .line) class (unpack (q .c)) severity
+  settleBy missing class severity k q s = R .noteAt (R .dropLabel s k) (q .line) class (unpack (q .c)) severity
 
   abbrev pub settleJump : List Mark → ℕ → Look → S → S
   settleJump ms k q s = pick (isPendingJump q) (settleBy (addrOf ms (q .b - 1)) 2 1 k q s) s

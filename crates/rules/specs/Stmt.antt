@@ -13,7 +13,7 @@ use Rattle.rules.specs.declared.types.«Type».the-variants.{Integer, Re
 use Rattle.rules.specs.Types.{matchesType, exactMatches}
 use Rattle.rules.specs.Name.{textPlace}
 use Rattle.rules.specs.Tables.{drawArity, drawn, operand, signatureOf, wanted, everyReal, tab, spc}
-use Rattle.rules.specs.Expr.{Sym, after, quotedStart, quotedLength, textSize, addError, addWarning, compileSym, checkType, realSym, noSym, funcName, textNode, elementBy, compileExpr, compileArgs, compileTyped, compileLvalue}
+use Rattle.rules.specs.Expr.{Sym, after, quotedStart, quotedLength, textSize, addError, addWarning, compileSym, checkType, realSym, noSym, optRealSym, textNode, elementBy, compileExpr, compileArgs, compileTyped, compileLvalue}
 
 -- a LOAD byte, read as str::parse::<u8> reads it, without blanks: one plus at most, then digits, up to 255.
 -- What was read so far: nothing, a plus, a number, or what is no byte.
@@ -188,8 +188,8 @@ module _ {S : Type 0} (R : Recorder S) (t : List ℕ) (base : ℕ) where
 
   unfoldable pub compileDef : Range → Opt Range → Opt Range → Expr → S → S
   compileDef r n p e s =
-      let x = funcName R t base n s in
-      let y = funcName R t base p (x .state) in
+      let x = optRealSym R t base n s in
+      let y = optRealSym R t base p (x .state) in
       defNode n p r (x .number) (y .number) e (y .state)
 
   -- compile_dim: an array's subscripts and its name; any other expression makes nothing
@@ -236,15 +236,15 @@ module _ {S : Type 0} (R : Recorder S) (t : List ℕ) (base : ℕ) where
 
   unfoldable pub compileFor : Range → Opt Range → Expr → Expr → Opt Expr → S → S
   compileFor r v a b e s =
-      let y = funcName R t base v s in
+      let y = optRealSym R t base v s in
       forNode v r (y .number) e (compileStep e (compileTyped R t base Real b (compileTyped R t base Real a (y .state))))
 
   -- compile_go: a jump that waits for its label
-  abbrev pub waitingJump : ℕ → Range → ℕ → Range → S → S
-  waitingJump sub r l lr s = R .emit s (goCall sub) r unknown (pendingLabel l) (pack lr)
+  abbrev pub pendingJump : ℕ → Range → ℕ → Range → S → S
+  pendingJump sub r l lr s = R .emit s (goCall sub) r unknown (pendingLabel l) (pack lr)
 
   unfoldable pub compileGo : Range → ℕ → Opt Target → S → S
-  compileGo r sub g s = waitingJump sub r (targetLabel g) (targetRange r g) s
+  compileGo r sub g s = pendingJump sub r (targetLabel g) (targetRange r g) s
 
   -- compile_restore
   abbrev pub compileRestore : Range → Opt Target → S → S
@@ -263,7 +263,7 @@ module _ {S : Type 0} (R : Recorder S) (t : List ℕ) (base : ℕ) where
 
   abbrev pub inputFn : Range → Opt Range → Expr → S → S
   inputFn r f e s =
-      let x = funcName R t base f s in
+      let x = optRealSym R t base f s in
       let y = inputArgBy (isIdent e) e (x .state) in
       fnPlace f (isIdent e) r (x .number) (y .number) (y .state)
 
@@ -366,7 +366,7 @@ module _ {S : Type 0} (R : Recorder S) (t : List ℕ) (base : ℕ) where
   -- compile_on
   unfoldable pub onJumps : ℕ → List OnTarget → S → S
   onJumps sub [] s = s
-  onJumps sub (g ∷ gs) s = onJumps sub gs (waitingJump sub (g .range) (labelOr0 (g .label)) (g .range) s)
+  onJumps sub (g ∷ gs) s = onJumps sub gs (pendingJump sub (g .range) (labelOr0 (g .label)) (g .range) s)
 
   unfoldable pub compileOn : Range → Expr → List OnTarget → ℕ → S → S
   compileOn r e gs sub s = onJumps sub gs (R .emit (compileTyped R t base Real e s) 22 r (length gs) 0 0)

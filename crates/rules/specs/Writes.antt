@@ -6,15 +6,12 @@ use mathlib.Core.Bool.{Bool, true}
 use Prim.Native.Nat.{ℕ, zero, suc, _-_}
 use lib.Dec.{eqb}
 use Rattle.recorder.specs.Word.{pick, either}
-use Rattle.recorder.specs.Ideal.{Rec, Ideal, ideal}
+use Rattle.recorder.specs.Ideal.{Rec, Ideal}
 use Rattle.recorder.specs.Closing.{rulesR, recAt}
-use Rattle.sheet.specs.Tree.{Opt, absent, given, Expr, Stmt, rem, op₀, op₁, op₂, op₃, draw, set, dataList, def, dim, field, for, go, ifThen, ifElse, input, assign, load, locate, next-of, on, open-file, print, read, restore, swap, system, while, write, Stmts, end, then, ProgramLine, programAt}
-use Rattle.rules.specs.declared.types.«Type».the-variants.{Real}
-use Rattle.rules.specs.Expr.{compileTyped}
-use Rattle.rules.specs.Stmt.{ifJump, elseJump, endHere, compileStmt, compileStmts}
-use Rattle.rules.specs.Program.{Lines, lineBegun, firstLine, compileLine}
+use Rattle.sheet.specs.Tree.{Opt, absent, given, Expr, Stmt, rem, op₀, op₁, op₂, op₃, draw, set, dataList, def, dim, field, for, go, ifThen, ifElse, input, assign, load, locate, next-of, on, open-file, print, read, restore, swap, system, while, write}
+use Rattle.rules.specs.Stmt.{compileStmt}
 use Rattle.rules.specs.Missing.{All, WriteCall, writeCall, endsWell}
-use Rattle.rules.specs.Demand.{here}
+use Rattle.rules.specs.Each.{here, eachOf}
 
 -- the calls 44 and 45 of a list of records, in order
 abbrev pub isWriteCall : ℕ → Bool
@@ -38,54 +35,39 @@ abbrev pub written : Opt Expr → ℕ → ℕ → Written
 written f a b = record { from = a; to = b; toFile = fileFlag f }
 
 -- the WRITEs of a sheet, in IFs too
-module _ (t : List ℕ) (base : ℕ) where
-  abbrev mutual
-    pub stmtWrites : Stmt → Ideal → List Written
-    stmtWrites (rem r) i = []
-    stmtWrites (op₀ k r) i = []
-    stmtWrites (op₁ k r a) i = []
-    stmtWrites (op₂ k r a b) i = []
-    stmtWrites (op₃ k r a b c) i = []
-    stmtWrites (draw k r es) i = []
-    stmtWrites (set k r a b) i = []
-    stmtWrites (dataList r ds) i = []
-    stmtWrites (def r n p e) i = []
-    stmtWrites (dim r es) i = []
-    stmtWrites (field r e fs) i = []
-    stmtWrites (for r v a b e) i = []
-    stmtWrites (go r sub g) i = []
-    stmtWrites (ifThen r e xs) i = stmtsWrites xs (ifJump (rulesR t) t base r (compileTyped (rulesR t) t base Real e i))
-    stmtWrites (ifElse r e xs ys) i =
-        let u = compileTyped (rulesR t) t base Real e i in
-        let v = compileStmts (rulesR t) t base xs (ifJump (rulesR t) t base r u) in
-        stmtsWrites xs (ifJump (rulesR t) t base r u)
-        ++ stmtsWrites ys (endHere (rulesR t) t base (here t base u) (elseJump (rulesR t) t base r v))
-    stmtWrites (input r src es) i = []
-    stmtWrites (assign r a b) i = []
-    stmtWrites (load r es) i = []
-    stmtWrites (locate r a b) i = []
-    stmtWrites (next-of r vs) i = []
-    stmtWrites (on r e gs sub) i = []
-    stmtWrites (open-file r f m e l) i = []
-    stmtWrites (print r xs) i = []
-    stmtWrites (read r es) i = []
-    stmtWrites (restore r g) i = []
-    stmtWrites (swap r a b) i = []
-    stmtWrites (system r) i = []
-    stmtWrites (while r e) i = []
-    stmtWrites (write r f ds) i = written f (here t base i) (here t base (compileStmt (rulesR t) t base (write r f ds) i)) ∷ []
-
-    pub stmtsWrites : Stmts → Ideal → List Written
-    stmtsWrites end i = []
-    stmtsWrites (then x xs) i = stmtWrites x i ++ stmtsWrites xs (compileStmt (rulesR t) t base x i)
-
-unfoldable pub linesWrites : List ℕ → List ProgramLine → Lines Ideal → List Written
-linesWrites t [] c = []
-linesWrites t (l ∷ ls) c =
-    stmtsWrites t (c .base) (l .stmts) (lineBegun (rulesR t) t c l) ++ linesWrites t ls (compileLine (rulesR t) t l c)
+abbrev pub writeOf : List ℕ → ℕ → Stmt → Ideal → List Written
+writeOf t base (rem r) i = []
+writeOf t base (op₀ k r) i = []
+writeOf t base (op₁ k r a) i = []
+writeOf t base (op₂ k r a b) i = []
+writeOf t base (op₃ k r a b c) i = []
+writeOf t base (draw k r es) i = []
+writeOf t base (set k r a b) i = []
+writeOf t base (dataList r ds) i = []
+writeOf t base (def r n p e) i = []
+writeOf t base (dim r es) i = []
+writeOf t base (field r e fs) i = []
+writeOf t base (for r v a b e) i = []
+writeOf t base (go r sub g) i = []
+writeOf t base (ifThen r e xs) i = []
+writeOf t base (ifElse r e xs ys) i = []
+writeOf t base (input r src es) i = []
+writeOf t base (assign r a b) i = []
+writeOf t base (load r es) i = []
+writeOf t base (locate r a b) i = []
+writeOf t base (next-of r vs) i = []
+writeOf t base (on r e gs sub) i = []
+writeOf t base (open-file r f m e l) i = []
+writeOf t base (print r xs) i = []
+writeOf t base (read r es) i = []
+writeOf t base (restore r g) i = []
+writeOf t base (swap r a b) i = []
+writeOf t base (system r) i = []
+writeOf t base (while r e) i = []
+writeOf t base (write r f ds) i = written f (here i) (here (compileStmt (rulesR t) t base (write r f ds) i)) ∷ []
 
 abbrev pub writes : List ℕ → List ℕ → List Written
-writes s t = linesWrites t (programAt s) (firstLine (rulesR t) t (ideal [] [] [] 0 0))
+writes s t = eachOf s t (writeOf t)
 
 -- the n records from the address k on
 unfoldable pub recordsFrom : List Rec → ℕ → ℕ → List Rec

@@ -3,7 +3,7 @@ use Prim.{Unit}
 use mathlib.Core.Path.{_≡_, refl, sym, ap, _∙_}
 use mathlib.Core.Bool.{Bool, true, false}
 use mathlib.Core.List.{List, [], _∷_}
-use Prim.Native.Nat.{ℕ, zero, suc, _+_, _≤_, _<_}
+use Prim.Native.Nat.{ℕ, zero, suc, _+_, _-_, _≤_, _<_}
 use native.Mathlib.Omega.{arith}
 use borrow.Author.Tests.{ltb-true, ltb-false}
 use lib.Dec.{ltb}
@@ -15,8 +15,8 @@ use Rattle.sheet.specs.declared.form.Times.{Times}
 use Rattle.sheet.specs.declared.form.Field.{Field}
 use Rattle.sheet.specs.declared.form.Sort.{Sort}
 use Rattle.sheet.specs.declared.form.Sort.the-variants.{Expr, Place, InputPlace, Stmt}
-use Rattle.sheet.specs.Table.{exprTable, stmtTable, exprFields, stmtFields, exprRange, fieldsOf}
-use Rattle.sheet.specs.Parts.{fieldOf, itemOf, timesOf, fieldStarts, fieldsFrom, rowFields, caseOf}
+use Rattle.sheet.specs.Table.{exprTable, stmtTable, exprFields, stmtFields, exprRangeItem, fieldsOf}
+use Rattle.sheet.specs.Parts.{fieldOf, itemOf, timesOf, fieldStarts, fieldsFrom, caseOf}
 
 pub field-same : (t t′ : Times) (a a′ b b′ : Item) → t ≡ t′ → a ≡ a′ → b ≡ b′
     → _≡_ {A = Field} (record { times = t; first = a; second = b }) (record { times = t′; first = a′; second = b′ })
@@ -37,12 +37,15 @@ outside l i h = sym (List·getD-eq-default l 0 (none-below (length l) i h))
 pub start-outside : (m : ℕ) → 84 ≤ m → 0 ≡ getD fieldStarts m 0
 start-outside m h = sym (List·getD-eq-default fieldStarts 0 h)
 
-pub range-rest : (k : ℕ) → (k ≡ 0 → ⊥) → (k ≡ 1 → ⊥) → range ≡ exprRange k
+pub range-rest : (k : ℕ) → (k ≡ 0 → ⊥) → (k ≡ 1 → ⊥) → range ≡ exprRangeItem k
 range-rest zero a b = absurd (a refl)
 range-rest (suc zero) a b = absurd (b refl)
 range-rest (suc (suc k)) a b = refl
 
--- the rows of the table from the m-th on, n of them
+-- the fields of the m-th case of the table; the rows from the m-th on, n of them
+abbrev pub rowFields : ℕ → List Field
+rowFields m = fieldsFrom (getD fieldStarts m 0) (getD fieldStarts (m + 1) 0 - getD fieldStarts m 0)
+
 rows : ℕ → ℕ → List (List Field)
 rows m zero = []
 rows m (suc n) = rowFields m ∷ rows (suc m) n

@@ -14,8 +14,8 @@ use Rattle.sheet.specs.declared.form.Walk.the-variants.{Behind, Stops}
 use Rattle.recorder.specs.declared.word.Range.{Range}
 use Rattle.sheet.specs.declared.form.Marked.{Marked}
 use Rattle.sheet.specs.declared.form.Marked.the-variants.{Labelled, Absent}
-use Rattle.sheet.specs.Parts.{lacksUnit, markedAt}
-use Rattle.sheet.specs.Form.{then, isAbsent, isAlnum, isSigil, nameTail, isName, highForm, lowForm}
+use Rattle.sheet.specs.Parts.{markedAt}
+use Rattle.sheet.specs.Form.{then, isAbsent, isAlnum, isSigil, nameTail, isName, highForm, lowForm, lacksUnit}
 
 -- a walk that offends ends what goes on behind it
 pub then-stop : (w x : Walk) (o : Offence) (f : ℕ → Walk) → w ≡ x → w ≡ Stops o → w ≡ then x f

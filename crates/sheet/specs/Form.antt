@@ -53,9 +53,20 @@ isAbsent s at = eqb (kindAt s at) 2
 abbrev pub isSpecial : ℕ → Bool
 isSpecial e = either (eqb e 0) (eqb e 256)
 
+-- "For e 0 or 256, m is 0; else m is at least 2^31": whether the halves of a mantissa may stand behind an exponent
+abbrev pub highFits : ℕ → ℕ → Bool
+highFits e m = pick (isSpecial e) (eqb m 0) (leb 32768 m)
+
+abbrev pub lowFits : ℕ → ℕ → Bool
+lowFits e m = either (eqb m 0) (pick (isSpecial e) false true)
+
 -- 7: "a string, prompt or quoted datum range without a unit"
 abbrev pub hasUnit : Range → Bool
 hasUnit r = ltb (r .start) (r .end)
+
+-- whether a datum says that it is quoted, and has no unit
+abbrev pub lacksUnit : ℕ → Range → Bool
+lacksUnit quoted r = both (eqb quoted 1) (pick (hasUnit r) false true)
 
 -- 7: "A range with start above end or end above its line's length"
 abbrev pub inLine : Line → Range → Bool
@@ -76,13 +87,12 @@ module _ (s : List ℕ) where
   unfoldable pub nonEmptyForm : ℕ → Walk
   nonEmptyForm at = then (countForm at) (λ p. pick (eqb (payloadAt s at) 0) (Stops (BadWord at)) (Behind p))
 
-  -- a literal's value: "0A with exponent e (0 to 255), or 256 for too large; then two 0B words, the high and low 16 bits of m.
-  -- For e 0 or 256, m is 0; else m is at least 2^31."
+  -- a literal's value: "0A with exponent e (0 to 255), or 256 for too large; then two 0B words, the high and low 16 bits of m."
   unfoldable pub highForm : ℕ → ℕ → Walk
-  highForm e at = then (takeWord 11 65536 at) (λ p. pick (pick (isSpecial e) (eqb (payloadAt s at) 0) (leb 32768 (payloadAt s at))) (Behind p) (Stops (BadWord at)))
+  highForm e at = then (takeWord 11 65536 at) (λ p. pick (highFits e (payloadAt s at)) (Behind p) (Stops (BadWord at)))
 
   unfoldable pub lowForm : ℕ → ℕ → Walk
-  lowForm e at = then (takeWord 11 65536 at) (λ p. pick (either (eqb (payloadAt s at) 0) (pick (isSpecial e) false true)) (Behind p) (Stops (BadWord at)))
+  lowForm e at = then (takeWord 11 65536 at) (λ p. pick (lowFits e (payloadAt s at)) (Behind p) (Stops (BadWord at)))
 
   unfoldable pub numberForm : ℕ → Walk
   numberForm at = then (takeWord 10 257 at) (λ p. then (highForm (payloadAt s at) p) (λ q. lowForm (payloadAt s at) q))
@@ -104,7 +114,7 @@ module _ (s : List ℕ) where
     -- a datum is its range and whether it is quoted; "Its place is the range word, for a quoted datum too."
     unfoldable pub datumForm : ℕ → Walk
     datumForm at = then (rangeForm at) (λ p. then (takeWord 5 2 p)
-        (λ q. pick (both (eqb (payloadAt s p) 1) (pick (hasUnit (rangeAt s at)) false true)) (Stops (BadRange at)) (Behind q)))
+        (λ q. pick (lacksUnit (payloadAt s p) (rangeAt s at)) (Stops (BadRange at)) (Behind q)))
 
     -- "absent, or range and label"
     unfoldable pub labelForm : ℕ → Walk

@@ -1,11 +1,9 @@
 -- The tables that the code walks: each field a number, one case's fields behind another's, and where each case's begin.
 use mathlib.Core.List.{List, [], _∷_}
-use mathlib.Core.Bool.{Bool, true, false}
 use Prim.Native.Nat.{ℕ, zero, suc, _+_, _-_, _/_, _%_}
-use lib.Dec.{ltb, leb, eqb}
+use lib.Dec.{ltb, eqb}
 use lib.ListN.{getD}
-use Rattle.recorder.specs.Word.{pick, both, either}
-use Rattle.recorder.specs.declared.word.Range.{Range}
+use Rattle.recorder.specs.Word.{pick}
 use Rattle.sheet.specs.declared.form.Item.{Item}
 use Rattle.sheet.specs.declared.form.Item.the-variants.{Nothing, Range as range, Name as name, OptionalName as optionalName, Text as text, Number as number, OptionalLabel as optionalLabel, Source as source, Element as element, Datum as datum}
 use Rattle.sheet.specs.declared.form.Sort.{Sort}
@@ -16,7 +14,7 @@ use Rattle.sheet.specs.declared.form.Field.{Field}
 use Rattle.sheet.specs.declared.form.Marked.{Marked}
 use Rattle.sheet.specs.declared.form.Marked.the-variants.{Labelled, Absent}
 use Rattle.sheet.specs.Table.{label, flag, mode, sysFunc, binaryOp, unaryOp, expr, place, inputPlace, stmt}
-use Rattle.sheet.specs.Form.{isAbsent, isSpecial, hasUnit}
+use Rattle.sheet.specs.Form.{isAbsent}
 
 -- the item that a number stands for
 unfoldable pub itemOf : ℕ → Item
@@ -77,10 +75,6 @@ unfoldable pub fieldsFrom : ℕ → ℕ → List Field
 fieldsFrom i zero = []
 fieldsFrom i (suc n) = fieldOf (getD fieldNumbers i 0) ∷ fieldsFrom (i + 1) n
 
--- the fields of the m-th case of the table
-abbrev pub rowFields : ℕ → List Field
-rowFields m = fieldsFrom (getD fieldStarts m 0) (getD fieldStarts (m + 1) 0 - getD fieldStarts m 0)
-
 -- which case of the table a node's is
 abbrev pub caseOf : Sort → ℕ → ℕ
 caseOf Expr k = pick (ltb k 10) k 82
@@ -91,14 +85,3 @@ caseOf Stmt k = pick (ltb k 72) (10 + k) 82
 -- whether a line has a label
 unfoldable pub markedAt : List ℕ → ℕ → Marked
 markedAt s at = pick (isAbsent s at) Absent Labelled
-
--- whether the halves of a mantissa may stand behind an exponent
-abbrev pub highFits : ℕ → ℕ → Bool
-highFits e m = pick (isSpecial e) (eqb m 0) (leb 32768 m)
-
-abbrev pub lowFits : ℕ → ℕ → Bool
-lowFits e m = either (eqb m 0) (pick (isSpecial e) false true)
-
--- whether a datum says that it is quoted, and has no unit
-abbrev pub lacksUnit : ℕ → Range → Bool
-lacksUnit quoted r = both (eqb quoted 1) (pick (hasUnit r) false true)

@@ -218,15 +218,15 @@ mayStand InputPlace k = either (eqb k 0) (either (eqb k 4) (either (eqb k 7) (eq
 mayStand Stmt k = ltb k 72
 
 -- "Each is followed by its range and its fields": an Ident's range is a name, a StringLit's has a unit
-abbrev pub exprRange : ℕ → Item
-exprRange zero = name
-exprRange (suc zero) = text
-exprRange (suc (suc k)) = range
+abbrev pub exprRangeItem : ℕ → Item
+exprRangeItem zero = name
+exprRangeItem (suc zero) = text
+exprRangeItem (suc (suc k)) = range
 
 abbrev pub ownRange : Sort → ℕ → Item
-ownRange Expr k = exprRange k
-ownRange Place k = exprRange k
-ownRange InputPlace k = exprRange k
+ownRange Expr k = exprRangeItem k
+ownRange Place k = exprRangeItem k
+ownRange InputPlace k = exprRangeItem k
 ownRange Stmt k = range
 
 abbrev pub fieldsOf : Sort → ℕ → List Field

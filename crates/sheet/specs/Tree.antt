@@ -51,7 +51,7 @@ unfoldable pub count : Exprs → ℕ
 count none = zero
 count (more e es) = suc (count es)
 
--- Datum, FieldSpec, (Range, Label), (Range, Option<Label>), (Range, ExprId), WriteElement, PrintElement, InputSource
+-- Datum, FieldSpec, (Range, Label) of a jump, a RESTORE and a line, (Range, Option<Label>), (Range, ExprId), WriteElement, PrintElement, InputSource
 pub record Datum : Type 0 where
   pub range : Range
   pub quoted : ℕ
@@ -128,13 +128,9 @@ mutual
     end : Stmts
     then : Stmt → Stmts → Stmts
 
-pub record Labelled : Type 0 where
-  pub range : Range
-  pub label : ℕ
-
 pub record ProgramLine : Type 0 where
   pub length : ℕ
-  pub label : Opt Labelled
+  pub label : Opt Target
   pub stmts : Stmts
 
 -- the shape of each case of StmtKind
@@ -199,6 +195,10 @@ module _ (s : List ℕ) where
   unfoldable pub exprAt : ℕ → ℕ → Expr
   exprAt zero at = error (rangeAt s (next s at))
   exprAt (suc left) at = exprNode (exprAt left) (skipNode s left exprSort) (payloadAt s at) (rangeAt s (next s at)) (next s (next s at))
+
+  -- n expressions from a place on
+  abbrev pub argsAt : ℕ → ℕ → ℕ → Exprs
+  argsAt left n at = exprsAt (exprAt left) (skipNode s left exprSort) n at
 
   unfoldable pub stmtsAt : (ℕ → Stmt) → (ℕ → ℕ) → ℕ → ℕ → Stmts
   stmtsAt f skip zero at = end
@@ -309,9 +309,6 @@ module _ (s : List ℕ) where
   stmtAt (suc left) at = stmtNode left (stmtAt left) (shapeOf (payloadAt s at)) (payloadAt s at) (rangeAt s (next s at)) (next s (next s at))
 
   -- a line: its label stands behind its head, its statements behind that
-  abbrev pub labelledAt : ℕ → Labelled
-  labelledAt at = record { range = rangeAt s at; label = labelAt s (next s at) }
-
   abbrev pub behindLabel : ℕ → ℕ
   behindLabel at = choose (isAbsent s at) (next s) (λ p. next s (next s p)) at
 
@@ -319,7 +316,7 @@ module _ (s : List ℕ) where
   lineStmts at = stmtsAt (stmtAt 64) (skipNode s 64 stmtSort) (payloadAt s at) (next s at)
 
   abbrev pub lineAt : ℕ → ProgramLine
-  lineAt at = record { length = payloadAt s at; label = optAt labelledAt (next s at); stmts = lineStmts (behindLabel (next s at)) }
+  lineAt at = record { length = payloadAt s at; label = optAt targetAt (next s at); stmts = lineStmts (behindLabel (next s at)) }
 
   abbrev pub behindLine : ℕ → ℕ
   behindLine at = skipList s (skipNode s 64 stmtSort) (behindLabel (next s at))

@@ -480,14 +480,14 @@ pub fn own_range(c: Sort, k: u32) -> Item
     ensures { λ r. ⌜ r ≡ ownRange c k ⌝ }
 {
     match c {
-        Sort::Expr => expr_range(k),
-        Sort::Place => expr_range(k),
-        Sort::InputPlace => expr_range(k),
+        Sort::Expr => expr_range_item(k),
+        Sort::Place => expr_range_item(k),
+        Sort::InputPlace => expr_range_item(k),
         Sort::Stmt => Item::Range,
     }
 }
 
-fn expr_range(k: u32) -> Item
+fn expr_range_item(k: u32) -> Item
     ensures { λ r. ⌜ r ≡ ownRange Sort.Expr k ⌝ }
 {
     match k {

@@ -1,4 +1,4 @@
 // The sheet: its form as one table, its leaves, and a reader of its words. Named after ast/expr.rs and ast/stmt.rs of the Rust.
-pub mod expr;
 pub mod form;
+pub mod leaf;
 pub mod reader;

@@ -10,9 +10,9 @@ use native.Mathlib.Omega.{arith}
 use Rattle.recorder.specs.declared.codegen.St.{St}
 use Rattle.recorder.specs.Word.{pick, choose}
 use Rattle.recorder.specs.Ideal.{Rec, rec, Note, Entry, Ideal, noRec, noRange, change, Search, missing, found}
-use Rattle.recorder.specs.Layout.{recWords, noteWords, entryWords, wordsOf, fill}
+use Rattle.recorder.specs.Layout.{recWords, noteWords, entryWords, wordsOf, fill, mostRecords}
 use Rattle.recorder.specs.Closing.{isWhile, isWend, closes, opened, endFrom, endAt, closeWhiles, openNote, openNotes, isDelay, isSteppedDelay, noOp, sleep, wholeEnd, delayed, steppedDelayed, delayFrom, delays, endRec, cleanUp}
-use Rattle.recorder.specs.Mem.{Mem, mem, listRoom, putRec, putSt, withNotes, Passed, passed, whilesFrom, topFrom, present, patchWhiles, convertDelays}
+use Rattle.recorder.specs.Mem.{Mem, mem, putRec, putSt, withNotes, Passed, passed, whilesFrom, topFrom, present, patchWhiles, convertDelays}
 use Rattle.recorder.proofs.Words.{length-snoc, change-length}
 use Rattle.simulation.proofs.Hide.{hideRec, hide, hide-false, allFresh}
 use Rattle.simulation.proofs.Sim.{Held, held-fits, held-count, Listed, listed-emit, Exact, put-form}
@@ -150,7 +150,7 @@ booked-rest : (B : ℕ) (es : List Entry) (b : List ℕ) (u s : St) → u ≡ wi
 booked-rest B es b u s e k = rw (ap (λ (z : St). z .entries) e, ap (λ (z : St). z .bfull) e) k
 
 module _ (L N B : ℕ) (i : Ideal) (rs : List Rec) (s : St) (P : Passed) (O : Opened L N (closeWhiles rs 0) (i .notes ++ openNotes (i .records)) s P)
-    (held : Held (listRoom L) (length (i .records)) (s .records) (s .lfull)) (fit : s .lfull ≡ false) (room : s .records < listRoom L)
+    (held : Held (mostRecords L) (length (i .records)) (s .records) (s .lfull)) (fit : s .lfull ≡ false) (room : s .records < mostRecords L)
     (many : length rs ≡ length (i .records)) (line : i .line ≡ s .line) where
   abbrev made : List Rec
   made = delays (length rs) 0 (closeWhiles rs 0)
@@ -185,8 +185,8 @@ module _ (L N B : ℕ) (i : Ideal) (rs : List Rec) (s : St) (P : Passed) (O : Op
     same = λ f. record { rs = made; words-are = converted .words-are; hidden = refl };
   }
 
-  fits-in : ltb (P .st .records) (listRoom (length (convertDelays (P .list) (P .st)))) ≡ true
-  fits-in = lt-ltb (P .st .records) (listRoom (length (convertDelays (P .list) (P .st)))) (omega (arith, records-are, converted .long))
+  fits-in : ltb (P .st .records) (mostRecords (length (convertDelays (P .list) (P .st)))) ≡ true
+  fits-in = lt-ltb (P .st .records) (mostRecords (length (convertDelays (P .list) (P .st)))) (omega (arith, records-are, converted .long))
 
   after : Listed L (made ++ (endRec (P .st .line) ∷ [])) (putRec (convertDelays (P .list) (P .st)) (P .st) 2 noRange 17 0 0) (P .st .records + 1) (P .st .lfull) (P .st .bfull)
   after = rw fits-in at (listed-emit L made (convertDelays (P .list) (P .st)) (P .st) (endRec (P .st .line)) (endRec (P .st .line)) before (λ f. refl))

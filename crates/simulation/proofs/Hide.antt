@@ -9,7 +9,7 @@ use native.Mathlib.Omega.{arith}
 use borrow.Author.Tests.{eqb-true}
 use Rattle.recorder.specs.declared.word.Range.{Range}
 use Rattle.recorder.specs.Word.{pick, both, either}
-use Rattle.recorder.specs.Ideal.{Rec, rec, noRec, change, withA, withC, settled, unsettled}
+use Rattle.recorder.specs.Ideal.{Rec, rec, noRec, change, withA, withC, settled, unlabelled}
 use Rattle.recorder.proofs.Bools.{both-left, both-right}
 
 -- the calls whose argument a is an entry's number, and those whose argument b is one too
@@ -101,10 +101,10 @@ unfolding hideRec
 blind-settled true v r = refl
 blind-settled false v r = refl
 
-pub blind-unsettled : (b : Bool) (r : Rec) → hideRec b (unsettled r) ≡ hideRec b (unsettled (hideRec b r))
+pub blind-unlabelled : (b : Bool) (r : Rec) → hideRec b (unlabelled r) ≡ hideRec b (unlabelled (hideRec b r))
 unfolding hideRec
-blind-unsettled true r = rw (pick-twice (numbered (r .call)) 0 (r .a))
-blind-unsettled false r = refl
+blind-unlabelled true r = rw (pick-twice (numbered (r .call)) 0 (r .a))
+blind-unlabelled false r = refl
 
 -- numbers may differ where they are hidden
 pub hide-number : (b : Bool) (k l : ℕ) (r : Range) (x y z c : ℕ) → numbered k ≡ true → (b ≡ false → x ≡ y) → hideRec b (rec k l r x z c) ≡ hideRec b (rec k l r y z c)

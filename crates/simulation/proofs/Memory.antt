@@ -8,14 +8,14 @@ use borrow.Author.Tests.{le-ltb}
 use native.Mathlib.Omega.{arith}
 use Rattle.recorder.specs.declared.codegen.St.{St}
 use Rattle.recorder.specs.Ideal.{rec, Ideal, ideal, howMany}
-use Rattle.recorder.specs.Layout.{fill}
+use Rattle.recorder.specs.Layout.{fill, mostRecords}
 use Rattle.recorder.specs.Closing.{cleanUp, closeWhiles, openNotes, rulesR}
-use Rattle.recorder.specs.Mem.{Mem, mem, memR, nothing, low, listRoom, present, patchWhiles, cleanUpAll, unlinked}
+use Rattle.recorder.specs.Mem.{Mem, mem, memR, nothing, low, present, patchWhiles, cleanUpAll, unlinked}
 use Rattle.simulation.proofs.Hide.{hideRec, hide-number, hide-numbers, allFresh, all-hidden}
 use Rattle.simulation.proofs.Simulation.{Simulation}
 use Rattle.simulation.proofs.Tree.{Tree}
 use Rattle.simulation.proofs.Book.{bares, allSmall}
-use Rattle.simulation.proofs.Sim.{Sim, Held, Later, Fits, Room, held-count, held-fits, same-length, unlinked-exact, listed-look, put-later, put-form, symbol-rest, symbol-later, datum-stays, byte-stays, sim-line, sim-emit, sim-note-at, sim-note, sim-datum, sim-byte, sim-symbol, sim-symbol-number, sim-patch, sim-patch-end, sim-settle, sim-settle-number, sim-unsettle, note-same, note-stays}
+use Rattle.simulation.proofs.Sim.{Sim, Held, Later, Fits, Room, held-count, held-fits, same-length, unlinked-exact, listed-look, put-later, put-form, symbol-rest, symbol-later, datum-stays, byte-stays, sim-line, sim-emit, sim-note-at, sim-note, sim-datum, sim-byte, sim-symbol, sim-symbol-number, sim-patch, sim-patch-end, sim-settle, sim-settle-number, sim-dropLabel, note-same, note-stays}
 use Rattle.simulation.proofs.Delays.{Holds}
 use Rattle.simulation.proofs.WhileWords.{Opened}
 use Rattle.simulation.proofs.Clean.{Done, hide-notes, same-records, whiles-are, clean-done}
@@ -24,7 +24,7 @@ use Rattle.simulation.proofs.Clean.{Done, hide-notes, same-records, whi
 pub sim-start : (t : List ℕ) (L N B : ℕ) → Sim t L N B (ideal [] [] [] 0 0) (mem (replicate L 0) (replicate N 0) (replicate B 0) nothing)
 unfolding allSmall allFresh howMany bares
 sim-start t L N B = record {
-  listed = record { long = length-replicate L 0; held = none (listRoom L); same = λ f. record { rs = []; words-are = empty L; hidden = refl } };
+  listed = record { long = length-replicate L 0; held = none (mostRecords L); same = λ f. record { rs = []; words-are = empty L; hidden = refl } };
   noted = record { long = length-replicate N 0; held = none (N / 4); same = λ f. empty N };
   booked = record {
     long = length-replicate B 0;
@@ -119,14 +119,14 @@ module _ (L N B : ℕ) (t : List ℕ) where
     settle = (sim-settle L N B t cleanUp);
     settle-number = (sim-settle-number L N B t cleanUp);
     settle-later = λ m k v. (λ e. e, λ e. e);
-    unsettle = (sim-unsettle L N B t cleanUp);
-    unsettle-later = λ m k. (λ e. e, λ e. e);
+    dropLabel = (sim-dropLabel L N B t cleanUp);
+    dropLabel-later = λ m k. (λ e. e, λ e. e);
     noteAt-fits = λ m l k r v f. (note-same L N B t cleanUp) (λ (z : St). z .lfull) m (λ e c. refl) ∙ f;
     settle-fits = λ m k v f. f;
-    unsettle-fits = λ m k f. f;
+    dropLabel-fits = λ m k f. f;
     noteAt-room = λ m l k r v f. ((note-same L N B t cleanUp) (λ (z : St). z .lfull) m (λ e c. refl) ∙ f .0, rw ((note-same L N B t cleanUp) (λ (z : St). z .records) m (λ e c. refl)) (f .1));
     settle-room = λ m k v f. f;
-    unsettle-room = λ m k f. f;
+    dropLabel-room = λ m k f. f;
     Done = Done L N B;
     cleanUp = sim-clean;
   }

@@ -12,12 +12,12 @@ use native.Mathlib.Omega.{arith}
 use Rattle.recorder.specs.declared.word.Range.{Range}
 use Rattle.recorder.specs.declared.codegen.St.{St}
 use Rattle.recorder.specs.Word.{pick, kind, payloadAt, wordOf, rangeWord}
-use Rattle.recorder.specs.Ideal.{Rec, rec, noteOf, Entry, entry, Ideal, ideal, idealR, howMany, nextNumber, added, Search, missing, found, findName, symbolIn, symbolOf, change, withA, withC, settled, unsettled, noRec, lookOf, firstOf}
-use Rattle.recorder.specs.Layout.{recWords, noteWords, entryWords, wordsOf, fill}
-use Rattle.recorder.specs.Mem.{Mem, mem, memR, listRoom, low, more, withRecords, withNotes, withEntries, withNames, putList, putSt, four, noteList, noteSt, entryList, entrySt, sigilCode, withLink, known, seek, linked, rootOf, unlinkFrom, unlinked, symbolNumber, symbolList, symbolSt, datumList, datumSt, byteList, byteSt, part, atRec, onRec, setA, setC, settleArgs, clearArgs, recOf, lookAt}
+use Rattle.recorder.specs.Ideal.{Rec, rec, noteOf, Entry, entry, Ideal, ideal, idealR, howMany, nextNumber, added, Search, missing, found, findName, symbolIn, symbolOf, change, withA, withC, settled, unlabelled, noRec, lookOf, firstOf}
+use Rattle.recorder.specs.Layout.{recWords, noteWords, entryWords, wordsOf, fill, mostRecords}
+use Rattle.recorder.specs.Mem.{Mem, mem, memR, low, more, withRecords, withNotes, withEntries, withNames, putList, putSt, four, noteList, noteSt, entryList, entrySt, sigilCode, withLink, known, descentTo, entryOf, linked, rootOf, unlinkFrom, unlinked, symbolNumber, symbolList, symbolSt, datumList, datumSt, byteList, byteSt, part, atRec, onRec, setA, setC, settleArgs, clearArgs, recOf, lookAt}
 use Rattle.recorder.proofs.Words.{length-snoc, put5, put4, words-snoc, length-words4, length-words, change-length, change-out, change-words, squash, rec-of}
 use Rattle.recorder.proofs.Bools.{never}
-use Rattle.simulation.proofs.Hide.{fresh, hideRec, hide, hide-length, hide-snoc, hide-true, hide-at, change-hidden, blind-same, blind-a, blind-c, blind-settled, blind-unsettled, hide-number, hide-call, hide-line, hide-c, hide-b, freshRec, allFresh, fresh-snoc, fresh-at, fresh-change}
+use Rattle.simulation.proofs.Hide.{fresh, hideRec, hide, hide-length, hide-snoc, hide-true, hide-at, change-hidden, blind-same, blind-a, blind-c, blind-settled, blind-unlabelled, hide-number, hide-call, hide-line, hide-c, hide-b, freshRec, allFresh, fresh-snoc, fresh-at, fresh-change}
 use Rattle.simulation.proofs.Simulation.{Sigil, Looks, SameLine}
 use Rattle.simulation.proofs.Tree.{side, Tree, Linking, from-none, from-name, linking, link-code, tree-other, tree-name, linked-length, seek-is}
 use Rattle.simulation.proofs.Book.{bare, bares, bares-length, bares-snoc, bare-name, bare-other, relink, put-entry, allSmall, small-snoc, Finds, lookup-finds, unlink-all, unlink-length}
@@ -64,18 +64,18 @@ same-length {b = b} {is = is} s = sym (hide-length b (s .rs)) ∙ ap length (s .
 
 pub record Listed (size : ℕ) (is : List Rec) (l : List ℕ) (count : ℕ) (full b : Bool) : Type 0 where
   pub long : length l ≡ size
-  pub held : Held (listRoom size) (length is) count full
+  pub held : Held (mostRecords size) (length is) count full
   pub same : full ≡ false → Same size l b is
 
 pub listed-emit : (size : ℕ) (is : List Rec) (l : List ℕ) (st : St) (i j : Rec) → Listed size is l (st .records) (st .lfull) (st .bfull)
     → (st .lfull ≡ false → hideRec (st .bfull) j ≡ hideRec (st .bfull) i)
     → Listed size (is ++ (i ∷ [])) (putList l st (wordOf (j .call) (j .line)) (rangeWord (j .range)) (j .a) (j .b) (j .c))
-    (pick (ltb (st .records) (listRoom (length l))) (st .records + 1) (st .records)) (pick (ltb (st .records) (listRoom (length l))) (st .lfull) true) (st .bfull)
+    (pick (ltb (st .records) (mostRecords (length l))) (st .records + 1) (st .records)) (pick (ltb (st .records) (mostRecords (length l))) (st .lfull) true) (st .bfull)
 unfolding putList
-listed-emit size is l st i j s e = go (decLt (length is) (listRoom size))
+listed-emit size is l st i j s e = go (decLt (length is) (mostRecords size))
   where
-    go : Dec (length is < listRoom size) → Listed size (is ++ (i ∷ [])) (putList l st (wordOf (j .call) (j .line)) (rangeWord (j .range)) (j .a) (j .b) (j .c))
-        (pick (ltb (st .records) (listRoom (length l))) (st .records + 1) (st .records)) (pick (ltb (st .records) (listRoom (length l))) (st .lfull) true) (st .bfull)
+    go : Dec (length is < mostRecords size) → Listed size (is ++ (i ∷ [])) (putList l st (wordOf (j .call) (j .line)) (rangeWord (j .range)) (j .a) (j .b) (j .c))
+        (pick (ltb (st .records) (mostRecords (length l))) (st .records + 1) (st .records)) (pick (ltb (st .records) (mostRecords (length l))) (st .lfull) true) (st .bfull)
     go (yes d) = rw (s .long, held-room (s .held) d) (record {
       long = simp length-set (s .long);
       held = rw (length-snoc is i) (held-in (s .held) d);
@@ -211,9 +211,9 @@ exact-put {A} f g size is l n full x h a b c e s = go (decLt (length is) (size /
     })
 
 -- St as an operation leaves it
-pub put-form : (l : List ℕ) (s : St) → putSt l s ≡ withRecords s (pick (ltb (s .records) (listRoom (length l))) (s .records + 1) (s .records)) (pick (ltb (s .records) (listRoom (length l))) (s .lfull) true)
+pub put-form : (l : List ℕ) (s : St) → putSt l s ≡ withRecords s (pick (ltb (s .records) (mostRecords (length l))) (s .records + 1) (s .records)) (pick (ltb (s .records) (mostRecords (length l))) (s .lfull) true)
 unfolding putSt
-put-form l s = go (ltb (s .records) (listRoom (length l)))
+put-form l s = go (ltb (s .records) (mostRecords (length l)))
   where
     go : (c : Bool) → pick c (withRecords s (s .records + 1) (s .lfull)) (withRecords s (s .records) true) ≡ withRecords s (pick c (s .records + 1) (s .records)) (pick c (s .lfull) true)
     go true = refl
@@ -252,7 +252,7 @@ how-snoc k (x ∷ es) e = rw (how-snoc k es e) (go (eqb (x .kind) k) (eqb (e .ki
     go false true = refl
     go false false = refl
 
-how-le : (k : ℕ) (es : List Entry) → howMany k es ≤ length es
+pub how-le : (k : ℕ) (es : List Entry) → howMany k es ≤ length es
 unfolding howMany
 how-le k [] = omega arith
 how-le k (e ∷ es) = go (eqb (e .kind) k) (how-le k es)
@@ -383,25 +383,25 @@ booked-other t size is b st k n x y z s e h =
     })
 
 -- a symbol: it is found, or it is made
-symbol-kept : (t b : List ℕ) (st : St) (x n g : ℕ) → seek t b st x n g < known b st
-    → (symbolList t b st x n g ≡ b) × (symbolSt t b st x n g ≡ st) × (symbolNumber t b st x n g ≡ payloadAt b (4 * seek t b st x n g))
+symbol-kept : (t b : List ℕ) (st : St) (x n g : ℕ) → entryOf t b st x n g < known b st
+    → (symbolList t b st x n g ≡ b) × (symbolSt t b st x n g ≡ st) × (symbolNumber t b st x n g ≡ payloadAt b (4 * entryOf t b st x n g))
 unfolding symbolList symbolSt symbolNumber
-symbol-kept t b st x n g h = let l = lt-ltb (seek t b st x n g) (known b st) h in (rw l, rw l, rw l)
+symbol-kept t b st x n g h = let l = lt-ltb (entryOf t b st x n g) (known b st) h in (rw l, rw l, rw l)
 
-symbol-made : (t b : List ℕ) (st : St) (x n g : ℕ) → known b st ≤ seek t b st x n g
-    → (symbolList t b st x n g ≡ entryList (linked t b st x n g) st (wordOf 50 (low (st .names))) x n (sigilCode g))
+symbol-made : (t b : List ℕ) (st : St) (x n g : ℕ) → known b st ≤ entryOf t b st x n g
+    → (symbolList t b st x n g ≡ entryList (linked b st (descentTo t b st x n g)) st (wordOf 50 (low (st .names))) x n (sigilCode g))
     × (symbolSt t b st x n g ≡ withNames (entrySt b st) (more (st .names) (length b / 4)) (rootOf b st)) × (symbolNumber t b st x n g ≡ low (st .names))
 unfolding symbolList symbolSt symbolNumber
-symbol-made t b st x n g h = let l = le-ltb (seek t b st x n g) (known b st) h in (rw l, rw l, rw l)
+symbol-made t b st x n g h = let l = le-ltb (entryOf t b st x n g) (known b st) h in (rw l, rw l, rw l)
 
 -- while the book fits, the search in it is the rules'
-pub record Sought (t : List ℕ) (is : List Entry) (b : List ℕ) (st : St) (x n g : ℕ) : Type 0 where
+pub record Found (t : List ℕ) (is : List Entry) (b : List ℕ) (st : St) (x n g : ℕ) : Type 0 where
   pub known-is : known b st ≡ length is
   pub tree : Tree t b (known b st) (st .root)
-  pub finds : Finds (findName t is x n g) (length is) (seek t b st x n g) b
+  pub finds : Finds (findName t is x n g) (length is) (entryOf t b st x n g) b
 
 search-same : (t : List ℕ) (size : ℕ) (is : List Entry) (b : List ℕ) (st : St) (x n g : ℕ) → Sigil g
-    → Booked t size is b (st .entries) (st .names) (st .datums) (st .bytes) (st .root) (st .bfull) → st .bfull ≡ false → Sought t is b st x n g
+    → Booked t size is b (st .entries) (st .names) (st .datums) (st .bytes) (st .root) (st .bfull) → st .bfull ≡ false → Found t is b st x n g
 search-same t size is b st x n g p s f =
     let w = s .written f in
     let e : known b st ≡ length is = omega (arith, held-count (s .held) f, held-fits (s .held) f, s .long) in
@@ -421,14 +421,14 @@ pub record Symbols (t : List ℕ) (size : ℕ) (is : List Entry) (b : List ℕ) 
   pub number : symbolSt t b st x n g .bfull ≡ false → v ≡ symbolNumber t b st x n g
 
 -- the link of a new name is set in the words of an earlier one
-name-puts : (t : List ℕ) (size : ℕ) (is : List Entry) (b : List ℕ) (st : St) (x n g h : ℕ) → Written t size is b (st .root) → length is ≡ st .entries → Tree t b (known b st) (st .root) → seek t b st x n g ≡ known b st
-    → st .entries < length b / 4 → kind h ≡ 50 → Puts t size is (linked t b st x n g) (st .entries) h x n (sigilCode g) (rootOf b st)
+name-puts : (t : List ℕ) (size : ℕ) (is : List Entry) (b : List ℕ) (st : St) (x n g h : ℕ) → Written t size is b (st .root) → length is ≡ st .entries → Tree t b (known b st) (st .root) → entryOf t b st x n g ≡ known b st
+    → st .entries < length b / 4 → kind h ≡ 50 → Puts t size is (linked b st (descentTo t b st x n g)) (st .entries) h x n (sigilCode g) (rootOf b st)
 name-puts t size is b st x n g h w l T a r k = go (linking t b x n g h st T a r k)
   where
-    tree : Tree t (four (linked t b st x n g) (st .entries) h x n (sigilCode g)) (st .entries + 1) (rootOf b st)
+    tree : Tree t (four (linked b st (descentTo t b st x n g)) (st .entries) h x n (sigilCode g)) (st .entries + 1) (rootOf b st)
     tree = tree-name t b x n g h st T a r k
 
-    go : Linking t b x n g st → Puts t size is (linked t b st x n g) (st .entries) h x n (sigilCode g) (rootOf b st)
+    go : Linking t b x n g st → Puts t size is (linked b st (descentTo t b st x n g)) (st .entries) h x n (sigilCode g) (rootOf b st)
     go (from-none e) = record { rs = w .qs; words-are = e ∙ w .words-are; bare-are = w .bare-are; tree = tree }
     go (from-name i u e j c) =
         let v : ℕ = withLink (side u) (getD b (4 * i + 3) 0) (st .entries) in
@@ -444,18 +444,18 @@ name-puts t size is b st x n g h w l T a r k = go (linking t b x n g h st T a r 
         }
 
 made : (t : List ℕ) (size : ℕ) (is : List Entry) (b : List ℕ) (st : St) (x n g : ℕ) → Sigil g → Booked t size is b (st .entries) (st .names) (st .datums) (st .bytes) (st .root) (st .bfull)
-    → Sought t is b st x n g → seek t b st x n g ≡ known b st → Symbols t size is b st x n g (added 50 is x n g) (nextNumber 50 is)
+    → Found t is b st x n g → entryOf t b st x n g ≡ known b st → Symbols t size is b st x n g (added 50 is x n g) (nextNumber 50 is)
 made t size is b st x n g p s o a =
     let m = symbol-made t b st x n g (omega arith) in
     record {
       booked = rw (m .0, m .1, entry-form b st)
-          (booked-entry t size is b (linked t b st x n g) st 50 (st .names) x n (sigilCode g) g (rootOf b st) s (linked-length t b x n g st) (bare-name (nextNumber 50 is) x n g p) (λ f. s .counted f .names-are)
+          (booked-entry t size is b (linked b st (descentTo t b st x n g)) st 50 (st .names) x n (sigilCode g) g (rootOf b st) s (linked-length t b x n g st) (bare-name (nextNumber 50 is) x n g p) (λ f. s .counted f .names-are)
           (λ f r. name-puts t size is b st x n g (wordOf 50 (nextNumber 50 is)) (s .written f) (held-count (s .held) f) (o .tree) a r (omega arith)));
       number = rw (m .1, m .2, entry-form b st) (λ f. ap low (sym (s .counted (pick-sticky (ltb (st .entries) (length b / 4)) (st .bfull) f .1) .names-are)));
     }
 
 kept : (t : List ℕ) (size : ℕ) (is : List Entry) (b : List ℕ) (st : St) (x n g v : ℕ) → Booked t size is b (st .entries) (st .names) (st .datums) (st .bytes) (st .root) (st .bfull)
-    → seek t b st x n g < known b st → (st .bfull ≡ false → v ≡ payloadAt b (4 * seek t b st x n g)) → Symbols t size is b st x n g is v
+    → entryOf t b st x n g < known b st → (st .bfull ≡ false → v ≡ payloadAt b (4 * entryOf t b st x n g)) → Symbols t size is b st x n g is v
 kept t size is b st x n g v s h e =
     let m = symbol-kept t b st x n g h in
     record { booked = rw (m .0, m .1) s; number = rw (m .1, m .2) e }
@@ -467,7 +467,7 @@ over t size is ks b b′ entries names datums bytes root names′ root′ full s
     record { long = e ∙ s .long; held = held-over (length ks) (s .held) f h; small = i; written = λ z. never z; counted = λ z. never z }
 
 over-made : (t : List ℕ) (size : ℕ) (is ks : List Entry) (b : List ℕ) (st : St) (x n g v : ℕ) → Booked t size is b (st .entries) (st .names) (st .datums) (st .bytes) (st .root) (st .bfull)
-    → st .bfull ≡ true → length is ≤ length ks → allSmall ks ≡ true → Dec (seek t b st x n g < known b st) → Symbols t size is b st x n g ks v
+    → st .bfull ≡ true → length is ≤ length ks → allSmall ks ≡ true → Dec (entryOf t b st x n g < known b st) → Symbols t size is b st x n g ks v
 over-made t size is ks b st x n g v s f h i (yes d) =
     let m = symbol-kept t b st x n g d in
     record {
@@ -479,8 +479,8 @@ over-made t size is ks b st x n g v s f h i (no d) =
     let o : ltb (st .entries) (length b / 4) ≡ false = rw (s .long) (held-none (s .held) (omega (arith, held-full (s .held) f))) in
     record {
       booked = rw (m .0, m .1, entry-form b st, o)
-          (over t size is ks b (entryList (linked t b st x n g) st (wordOf 50 (low (st .names))) x n (sigilCode g)) (st .entries) (st .names) (st .datums) (st .bytes) (st .root) (more (st .names) (length b / 4)) (rootOf b st) (st .bfull) s f h i
-          (entry-long (linked t b st x n g) st (wordOf 50 (low (st .names))) x n (sigilCode g) ∙ linked-length t b x n g st));
+          (over t size is ks b (entryList (linked b st (descentTo t b st x n g)) st (wordOf 50 (low (st .names))) x n (sigilCode g)) (st .entries) (st .names) (st .datums) (st .bytes) (st .root) (more (st .names) (length b / 4)) (rootOf b st) (st .bfull) s f h i
+          (entry-long (linked b st (descentTo t b st x n g)) st (wordOf 50 (low (st .names))) x n (sigilCode g) ∙ linked-length t b x n g st));
       number = rw (m .1, entry-form b st, o) (λ z. never z);
     }
 
@@ -499,16 +499,16 @@ unfolding Finds
 symbols t size is b st x n g p s = which (st .bfull) refl (findName t is x n g) refl
   where
     which : (f : Bool) → st .bfull ≡ f → (o : Search) → findName t is x n g ≡ o → Symbols t size is b st x n g (entriesOf o is x n g) (numberOf o is)
-    which true f (found v) e = over-made t size is is b st x n g v s f (omega arith) (s .small) (decLt (seek t b st x n g) (known b st))
+    which true f (found v) e = over-made t size is is b st x n g v s f (omega arith) (s .small) (decLt (entryOf t b st x n g) (known b st))
     which true f missing e = over-made t size is (added 50 is x n g) b st x n g (nextNumber 50 is) s f (omega (arith, length-snoc is (entry 50 (nextNumber 50 is) x n g)))
-        (small-snoc is (entry 50 (nextNumber 50 is) x n g) (s .small) (small-number 50 is)) (decLt (seek t b st x n g) (known b st))
+        (small-snoc is (entry 50 (nextNumber 50 is) x n g) (s .small) (small-number 50 is)) (decLt (entryOf t b st x n g) (known b st))
     which false f (found v) e =
         let q = search-same t size is b st x n g p s f in
-        let w : Finds (found v) (length is) (seek t b st x n g) b = rw e at (q .finds) in
+        let w : Finds (found v) (length is) (entryOf t b st x n g) b = rw e at (q .finds) in
         kept t size is b st x n g v s (omega (arith, q .known-is, w .0)) (λ z. sym (w .1))
     which false f missing e =
         let q = search-same t size is b st x n g p s f in
-        let w : Finds missing (length is) (seek t b st x n g) b = rw e at (q .finds) in
+        let w : Finds missing (length is) (entryOf t b st x n g) b = rw e at (q .finds) in
         made t size is b st x n g p s q (w ∙ sym (q .known-is))
 
 -- closing up takes the links away
@@ -542,30 +542,30 @@ abbrev pub Fits : Mem → Type 0
 Fits m = m .st .lfull ≡ false
 
 abbrev pub Room : ℕ → Mem → Type 0
-Room L m = (m .st .lfull ≡ false) × (m .st .records < listRoom L)
+Room L m = (m .st .lfull ≡ false) × (m .st .records < mostRecords L)
 
 pub put-later : (l : List ℕ) (s : St) → putSt l s .lfull ≡ false → s .lfull ≡ false
-put-later l s = rw (put-form l s) (λ f. pick-sticky (ltb (s .records) (listRoom (length l))) (s .lfull) f .1)
+put-later l s = rw (put-form l s) (λ f. pick-sticky (ltb (s .records) (mostRecords (length l))) (s .lfull) f .1)
 
 entry-later : (b : List ℕ) (s : St) → entrySt b s .bfull ≡ false → s .bfull ≡ false
 entry-later b s = rw (entry-form b s) (λ f. pick-sticky (ltb (s .entries) (length b / 4)) (s .bfull) f .1)
 
 -- a symbol touches the book alone
-symbol-form : (t b : List ℕ) (st : St) (x n g : ℕ) → (z : Bool) → ltb (seek t b st x n g) (known b st) ≡ z
+symbol-form : (t b : List ℕ) (st : St) (x n g : ℕ) → (z : Bool) → ltb (entryOf t b st x n g) (known b st) ≡ z
     → symbolSt t b st x n g ≡ pick z st (withNames (entrySt b st) (more (st .names) (length b / 4)) (rootOf b st))
 unfolding symbolSt
 symbol-form t b st x n g z e = rw e
 
 pub symbol-rest : {A : Type 0} (f : St → A) (t b : List ℕ) (st : St) (x n g : ℕ) → ((e k r : ℕ) (c : Bool) → f (withNames (withEntries st e c) k r) ≡ f st) → f (symbolSt t b st x n g) ≡ f st
 symbol-rest f t b st x n g h =
-    ap f (symbol-form t b st x n g (ltb (seek t b st x n g) (known b st)) refl) ∙ go (ltb (seek t b st x n g) (known b st))
+    ap f (symbol-form t b st x n g (ltb (entryOf t b st x n g) (known b st)) refl) ∙ go (ltb (entryOf t b st x n g) (known b st))
   where
     go : (z : Bool) → f (pick z st (withNames (entrySt b st) (more (st .names) (length b / 4)) (rootOf b st))) ≡ f st
     go true = refl
     go false = rw (entry-form b st) (h (pick (ltb (st .entries) (length b / 4)) (st .entries + 1) (st .entries)) (more (st .names) (length b / 4)) (rootOf b st) (pick (ltb (st .entries) (length b / 4)) (st .bfull) true))
 
 pub symbol-later : (t b : List ℕ) (st : St) (x n g : ℕ) → symbolSt t b st x n g .bfull ≡ false → st .bfull ≡ false
-symbol-later t b st x n g = rw (symbol-form t b st x n g (ltb (seek t b st x n g) (known b st)) refl) (go (ltb (seek t b st x n g) (known b st)))
+symbol-later t b st x n g = rw (symbol-form t b st x n g (ltb (entryOf t b st x n g) (known b st)) refl) (go (ltb (entryOf t b st x n g) (known b st)))
   where
     go : (z : Bool) → pick z st (withNames (entrySt b st) (more (st .names) (length b / 4)) (rootOf b st)) .bfull ≡ false → st .bfull ≡ false
     go true f = f
@@ -724,9 +724,9 @@ module _ (L N B : ℕ) (t : List ℕ) (clean : Ideal → Ideal) where
       (λ z r a. blind-same (m .st .bfull) (settled v′) r (getD (i .records) k noRec) (blind-settled (m .st .bfull) v′) a
       ∙ sym (hide-number (m .st .bfull) (getD (i .records) k noRec .call) (getD (i .records) k noRec .line) (getD (i .records) k noRec .range) v v′ 0 0 (rw u) d)) (rw u)
 
-  pub sim-unsettle : (i : Ideal) (m : Mem) (k : ℕ) → eqb (getD (i .records) k noRec .call) 25 ≡ false → Sim t L N B i m → Sim t L N B (idealR t clean .unsettle i k) (memR t .unsettle m k)
-  sim-unsettle i m k u s = sim-change clearArgs unsettled unsettled (λ r ys. refl) (λ p. simp length-set) i m k k s (λ z. refl)
-      (λ z r a. blind-same (m .st .bfull) unsettled r (getD (i .records) k noRec) (blind-unsettled (m .st .bfull)) a) (rw u)
+  pub sim-dropLabel : (i : Ideal) (m : Mem) (k : ℕ) → eqb (getD (i .records) k noRec .call) 25 ≡ false → Sim t L N B i m → Sim t L N B (idealR t clean .dropLabel i k) (memR t .dropLabel m k)
+  sim-dropLabel i m k u s = sim-change clearArgs unlabelled unlabelled (λ r ys. refl) (λ p. simp length-set) i m k k s (λ z. refl)
+      (λ z r a. blind-same (m .st .bfull) unlabelled r (getD (i .records) k noRec) (blind-unlabelled (m .st .bfull)) a) (rw u)
 
   pub note-same : {A : Type 0} (f : St → A) (m : Mem) → ((e : ℕ) (c : Bool) → f (withNotes (m .st) e c) ≡ f (m .st)) → f (noteSt (m .notes) (m .st)) ≡ f (m .st)
   note-same f m h = rw (note-form (m .notes) (m .st)) (h (pick (ltb (m .st .notes) (length (m .notes) / 4)) (m .st .notes + 1) (m .st .notes)) (pick (ltb (m .st .notes) (length (m .notes) / 4)) (m .st .nfull) true))

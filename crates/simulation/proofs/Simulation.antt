@@ -78,15 +78,15 @@ pub record Simulation {S T : Type 0} (R : Recorder S) (Q : Recorder T) : Type 1 
   pub settle : (s : S) (t : T) (k v v′ : ℕ) → eqb (R .look s k .call) 25 ≡ false → Sim s t → Place t v v′ → Sim (R .settle s k v) (Q .settle t k v′)
   pub settle-number : (s : S) (t : T) (k v v′ : ℕ) → R .look s k .call ≡ 31 → Sim s t → Number t v v′ → Sim (R .settle s k v) (Q .settle t k v′)
   pub settle-later : (t : T) (k v : ℕ) → Later t (Q .settle t k v)
-  pub unsettle : (s : S) (t : T) (k : ℕ) → eqb (R .look s k .call) 25 ≡ false → Sim s t → Sim (R .unsettle s k) (Q .unsettle t k)
-  pub unsettle-later : (t : T) (k : ℕ) → Later t (Q .unsettle t k)
+  pub dropLabel : (s : S) (t : T) (k : ℕ) → eqb (R .look s k .call) 25 ≡ false → Sim s t → Sim (R .dropLabel s k) (Q .dropLabel t k)
+  pub dropLabel-later : (t : T) (k : ℕ) → Later t (Q .dropLabel t k)
   -- the operations of closing up take no room
   pub noteAt-fits : (t : T) (l k : ℕ) (r : Range) (v : ℕ) → Fits t → Fits (Q .noteAt t l k r v)
   pub settle-fits : (t : T) (k v : ℕ) → Fits t → Fits (Q .settle t k v)
-  pub unsettle-fits : (t : T) (k : ℕ) → Fits t → Fits (Q .unsettle t k)
+  pub dropLabel-fits : (t : T) (k : ℕ) → Fits t → Fits (Q .dropLabel t k)
   pub noteAt-room : (t : T) (l k : ℕ) (r : Range) (v : ℕ) → Room t → Room (Q .noteAt t l k r v)
   pub settle-room : (t : T) (k v : ℕ) → Room t → Room (Q .settle t k v)
-  pub unsettle-room : (t : T) (k : ℕ) → Room t → Room (Q .unsettle t k)
+  pub dropLabel-room : (t : T) (k : ℕ) → Room t → Room (Q .dropLabel t k)
   -- clean_up, where one more record fits
   pub Done : S → T → Type 0
   pub cleanUp : (s : S) (t : T) → Sim s t → Room t → Done (R .cleanUp s) (Q .cleanUp t)

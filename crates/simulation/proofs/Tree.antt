@@ -1,4 +1,4 @@
--- The tree of the names in the book: what it says, that the way through it comes to a name, and what a new entry does to it.
+-- The tree of the names in the book: what it says, that the descent through it comes to a name, and what a new entry does to it.
 use mathlib.Core.Path.{_≡_, refl, sym, ap, _∙_}
 use mathlib.Core.List.{List}
 use mathlib.Core.Bool.{Bool, true, false}
@@ -10,10 +10,10 @@ use borrow.Author.Tests.{lt-ltb, le-ltb, ltb-true, eqb-true, eq-eqb, ne-eqb}
 use native.Mathlib.Decide.{decLt, ℕ-discrete}
 use native.Mathlib.Omega.{arith}
 use Rattle.recorder.specs.declared.codegen.St.{St}
-use Rattle.recorder.specs.declared.codegen.Way.{Way}
+use Rattle.recorder.specs.declared.codegen.Descent.{Descent}
 use Rattle.recorder.specs.Word.{pick, both, kind, kindAt, next}
 use Rattle.recorder.specs.Name.{upper, sameUnits, sameName}
-use Rattle.recorder.specs.Mem.{four, sigilCode, sigilOf, linkOf, withLink, known, namedAt, lookup, mix, turnsOf, onward, leads, wayFrom, wayTo, seek, mayLink, linkedAt, linked, rootOf}
+use Rattle.recorder.specs.Mem.{four, sigilCode, sigilOf, linkOf, withLink, known, namedAt, lookup, hashStep, hashOf, childOf, hasChild, descentFrom, descentTo, entryOf, mayLink, linkedAt, linked, rootOf}
 use Rattle.recorder.proofs.Bools.{never, both-parts, both-false}
 
 pick-true : (c a : Bool) → pick c a false ≡ true → (c ≡ true) × (a ≡ true)
@@ -24,23 +24,23 @@ is-false : (c : Bool) → (c ≡ true → ⊥) → c ≡ false
 is-false true h = absurd (h refl)
 is-false false h = refl
 
--- the link of an entry on a side, and the side that a name's turns choose
+-- the link of an entry on a side, and the side that a name's bits choose
 abbrev pub linkFrom : List ℕ → Bool → ℕ → ℕ
 linkFrom b h k = linkOf h (getD b (4 * k + 3) 0)
 
 abbrev pub side : ℕ → Bool
-side turns = ltb 2147483647 turns
+side bits = ltb 2147483647 bits
 
--- the turns of the name that an entry is
+-- the bits of the name that an entry is
 abbrev pub turnsAt : List ℕ → List ℕ → ℕ → ℕ
-turnsAt t b k = turnsOf t (getD b (4 * k + 1) 0) (getD b (4 * k + 3) 0 % 4) (getD b (4 * k + 2) 0)
+turnsAt t b k = hashOf t (getD b (4 * k + 1) 0) (getD b (4 * k + 3) 0 % 4) (getD b (4 * k + 2) 0)
 
--- an entry is reached by turns: links that rise lead to it
+-- an entry is reached by bits: links that rise lead to it
 pub data Reach (b : List ℕ) (i : ℕ) : ℕ → ℕ → Type 0 where
-  here : {at turns : ℕ} → at ≡ i → Reach b i at turns
-  onto : {at turns : ℕ} → at < linkFrom b (side turns) at → Reach b i (linkFrom b (side turns) at) (turns * 2 % 4294967296) → Reach b i at turns
+  here : {at bits : ℕ} → at ≡ i → Reach b i at bits
+  onto : {at bits : ℕ} → at < linkFrom b (side bits) at → Reach b i (linkFrom b (side bits) at) (bits * 2 % 4294967296) → Reach b i at bits
 
-reach-le : {b : List ℕ} {i at turns : ℕ} → Reach b i at turns → at ≤ i
+reach-le : {b : List ℕ} {i at bits : ℕ} → Reach b i at bits → at ≤ i
 reach-le (here e) = omega arith
 reach-le (onto h r) = omega (arith, reach-le r)
 
@@ -53,15 +53,15 @@ pub record Tree (t b : List ℕ) (n root : ℕ) : Type 0 where
       → (linkFrom b h k < n) × (linkFrom b h k < 32768) × (kindAt b (4 * linkFrom b h k) ≡ 50)
   pub sigils : (k : ℕ) → k < n → kindAt b (4 * k) ≡ 50 → sigilCode (sigilOf (getD b (4 * k + 3) 0 % 4)) ≡ getD b (4 * k + 3) 0 % 4
 
--- equal names have the same turns
-same-turns : (t : List ℕ) (a c h n : ℕ) → sameUnits t a c n ≡ true → turnsOf t a h n ≡ turnsOf t c h n
-unfolding sameUnits turnsOf
+-- equal names have the same bits
+same-turns : (t : List ℕ) (a c h n : ℕ) → sameUnits t a c n ≡ true → hashOf t a h n ≡ hashOf t c h n
+unfolding sameUnits hashOf
 same-turns t a c h zero e = refl
 same-turns t a c h (suc n) e =
     let p = pick-true (eqb (upper (getD t a 0)) (upper (getD t c 0))) (sameUnits t (next t a) (next t c) n) e in
-    rw (eqb-true (upper (getD t a 0)) (upper (getD t c 0)) (p .0)) (same-turns t (next t a) (next t c) (mix h (upper (getD t c 0))) n (p .1))
+    rw (eqb-true (upper (getD t a 0)) (upper (getD t c 0)) (p .0)) (same-turns t (next t a) (next t c) (hashStep h (upper (getD t c 0))) n (p .1))
 
-named-is : (t b : List ℕ) (k x n g : ℕ) → namedAt t b k x n g ≡ true → (k < length b / 4) × (kindAt b (4 * k) ≡ 50) × (turnsAt t b k ≡ turnsOf t x (sigilCode g) n)
+named-is : (t b : List ℕ) (k x n g : ℕ) → namedAt t b k x n g ≡ true → (k < length b / 4) × (kindAt b (4 * k) ≡ 50) × (turnsAt t b k ≡ hashOf t x (sigilCode g) n)
 unfolding sameName
 named-is t b k x n g e =
     let a : ℕ = getD b (4 * k + 1) 0 in
@@ -74,76 +74,76 @@ named-is t b k x n g e =
     let w : sameUnits t a x n ≡ true = rw (eqb-true m n (r .0)) at (s .1) in
     (ltb-true k (length b / 4) (p .0), eqb-true (kindAt b (4 * k)) 50 (q .0), rw (eqb-true m n (r .0), eqb-true (y % 4) (sigilCode g) (s .0)) (same-turns t a x (sigilCode g) n w))
 
--- the way from an entry to another
+-- the descent from an entry to another
 pub data Walk (b : List ℕ) (end e u : ℕ) : ℕ → ℕ → Type 0 where
-  stay : {at turns : ℕ} → at ≡ e → turns ≡ u → Walk b end e u at turns
-  move : {at turns : ℕ} → at < linkFrom b (side turns) at → linkFrom b (side turns) at < end → Walk b end e u (linkFrom b (side turns) at) (turns * 2 % 4294967296) → Walk b end e u at turns
+  stay : {at bits : ℕ} → at ≡ e → bits ≡ u → Walk b end e u at bits
+  move : {at bits : ℕ} → at < linkFrom b (side bits) at → linkFrom b (side bits) at < end → Walk b end e u (linkFrom b (side bits) at) (bits * 2 % 4294967296) → Walk b end e u at bits
 
-abbrev way : ℕ → ℕ → Way
-way at turns = record { at = at; turns = turns }
+abbrev descent : ℕ → ℕ → Descent
+descent at bits = record { at = at; bits = bits }
 
-walk-name : {t b : List ℕ} {n root e u at turns : ℕ} → Tree t b n root → Walk b n e u at turns → at < n → at < 32768 → kindAt b (4 * at) ≡ 50 → (e < n) × (e < 32768) × (kindAt b (4 * e) ≡ 50)
+walk-name : {t b : List ℕ} {n root e u at bits : ℕ} → Tree t b n root → Walk b n e u at bits → at < n → at < 32768 → kindAt b (4 * at) ≡ 50 → (e < n) × (e < 32768) × (kindAt b (4 * e) ≡ 50)
 walk-name T (stay h i) l m k = rw (← h) (l, m, k)
-walk-name T (move {at} {turns} h i w) l m k =
-    let q = T .links at l k (side turns) (omega arith) in
+walk-name T (move {at} {bits} h i w) l m k =
+    let q = T .links at l k (side bits) (omega arith) in
     walk-name T w (q .0) (q .1) (q .2)
 
 module _ (t b : List ℕ) (end x n g : ℕ) (in-book : end ≤ length b / 4) where
-  abbrev W : ℕ → ℕ → ℕ → Way
-  W at turns left = wayFrom t b end x n g (way at turns) left
+  abbrev W : ℕ → ℕ → ℕ → Descent
+  W at bits left = descentFrom t b end x n g (descent at bits) left
 
-  step : (e u at turns k : ℕ) → k ≡ linkFrom b (side turns) at → at < k → k < end → Walk b end e u k (turns * 2 % 4294967296) → Walk b end e u at turns
-  step e u at turns k o p q w = move (rw o at p) (rw o at q) (rw o at w)
+  step : (e u at bits k : ℕ) → k ≡ linkFrom b (side bits) at → at < k → k < end → Walk b end e u k (bits * 2 % 4294967296) → Walk b end e u at bits
+  step e u at bits k o p q w = move (rw o at p) (rw o at q) (rw o at w)
 
-  way-walks : (at turns left : ℕ) → at < end → Walk b end (W at turns left .at) (W at turns left .turns) at turns
-  unfolding wayFrom
-  way-walks at turns zero l = stay refl refl
-  way-walks at turns (suc left) l = go (namedAt t b at x n g) (leads b end (way at turns)) refl (way-walks (onward b (way at turns)) (turns * 2 % 4294967296) left)
+  descent-walks : (at bits left : ℕ) → at < end → Walk b end (W at bits left .at) (W at bits left .bits) at bits
+  unfolding descentFrom
+  descent-walks at bits zero l = stay refl refl
+  descent-walks at bits (suc left) l = go (namedAt t b at x n g) (hasChild b end (descent at bits)) refl (descent-walks (childOf b (descent at bits)) (bits * 2 % 4294967296) left)
     where
-      go : (c d : Bool) → leads b end (way at turns) ≡ d
-          → (onward b (way at turns) < end → Walk b end (W (onward b (way at turns)) (turns * 2 % 4294967296) left .at) (W (onward b (way at turns)) (turns * 2 % 4294967296) left .turns) (onward b (way at turns)) (turns * 2 % 4294967296))
-          → Walk b end (pick c (way at turns) (pick d (W (onward b (way at turns)) (turns * 2 % 4294967296) left) (way at turns)) .at)
-          (pick c (way at turns) (pick d (W (onward b (way at turns)) (turns * 2 % 4294967296) left) (way at turns)) .turns) at turns
+      go : (c d : Bool) → hasChild b end (descent at bits) ≡ d
+          → (childOf b (descent at bits) < end → Walk b end (W (childOf b (descent at bits)) (bits * 2 % 4294967296) left .at) (W (childOf b (descent at bits)) (bits * 2 % 4294967296) left .bits) (childOf b (descent at bits)) (bits * 2 % 4294967296))
+          → Walk b end (pick c (descent at bits) (pick d (W (childOf b (descent at bits)) (bits * 2 % 4294967296) left) (descent at bits)) .at)
+          (pick c (descent at bits) (pick d (W (childOf b (descent at bits)) (bits * 2 % 4294967296) left) (descent at bits)) .bits) at bits
       go true d q w = stay refl refl
       go false false q w = stay refl refl
       go false true q w =
-          let r = both-parts (ltb at (onward b (way at turns))) (ltb (onward b (way at turns)) end) q in
-          let v = ltb-true (onward b (way at turns)) end (r .1) in
-          let o : onward b (way at turns) ≡ linkFrom b (side turns) at = rw (lt-ltb at (length b / 4) (omega arith)) in
-          step (W (onward b (way at turns)) (turns * 2 % 4294967296) left .at) (W (onward b (way at turns)) (turns * 2 % 4294967296) left .turns) at turns (onward b (way at turns)) o
-          (ltb-true at (onward b (way at turns)) (r .0)) v (w v)
+          let r = both-parts (ltb at (childOf b (descent at bits))) (ltb (childOf b (descent at bits)) end) q in
+          let v = ltb-true (childOf b (descent at bits)) end (r .1) in
+          let o : childOf b (descent at bits) ≡ linkFrom b (side bits) at = rw (lt-ltb at (length b / 4) (omega arith)) in
+          step (W (childOf b (descent at bits)) (bits * 2 % 4294967296) left .at) (W (childOf b (descent at bits)) (bits * 2 % 4294967296) left .bits) at bits (childOf b (descent at bits)) o
+          (ltb-true at (childOf b (descent at bits)) (r .0)) v (w v)
 
-  -- it ends at the name, or where nothing leads on
-  way-stops : (at turns left : ℕ) → at < end → end ≤ at + left → namedAt t b (W at turns left .at) x n g ≡ false → leads b end (W at turns left) ≡ false
-  unfolding wayFrom
-  way-stops at turns zero l m = absurd (omega arith)
-  way-stops at turns (suc left) l m = go (namedAt t b at x n g) refl (leads b end (way at turns)) refl (way-stops (onward b (way at turns)) (turns * 2 % 4294967296) left)
+  -- it ends at the name, or where there is no child
+  descent-stops : (at bits left : ℕ) → at < end → end ≤ at + left → namedAt t b (W at bits left .at) x n g ≡ false → hasChild b end (W at bits left) ≡ false
+  unfolding descentFrom
+  descent-stops at bits zero l m = absurd (omega arith)
+  descent-stops at bits (suc left) l m = go (namedAt t b at x n g) refl (hasChild b end (descent at bits)) refl (descent-stops (childOf b (descent at bits)) (bits * 2 % 4294967296) left)
     where
-      go : (c : Bool) → namedAt t b at x n g ≡ c → (d : Bool) → leads b end (way at turns) ≡ d
-          → (onward b (way at turns) < end → end ≤ onward b (way at turns) + left → namedAt t b (W (onward b (way at turns)) (turns * 2 % 4294967296) left .at) x n g ≡ false
-          → leads b end (W (onward b (way at turns)) (turns * 2 % 4294967296) left) ≡ false)
-          → namedAt t b (pick c (way at turns) (pick d (W (onward b (way at turns)) (turns * 2 % 4294967296) left) (way at turns)) .at) x n g ≡ false
-          → leads b end (pick c (way at turns) (pick d (W (onward b (way at turns)) (turns * 2 % 4294967296) left) (way at turns))) ≡ false
+      go : (c : Bool) → namedAt t b at x n g ≡ c → (d : Bool) → hasChild b end (descent at bits) ≡ d
+          → (childOf b (descent at bits) < end → end ≤ childOf b (descent at bits) + left → namedAt t b (W (childOf b (descent at bits)) (bits * 2 % 4294967296) left .at) x n g ≡ false
+          → hasChild b end (W (childOf b (descent at bits)) (bits * 2 % 4294967296) left) ≡ false)
+          → namedAt t b (pick c (descent at bits) (pick d (W (childOf b (descent at bits)) (bits * 2 % 4294967296) left) (descent at bits)) .at) x n g ≡ false
+          → hasChild b end (pick c (descent at bits) (pick d (W (childOf b (descent at bits)) (bits * 2 % 4294967296) left) (descent at bits))) ≡ false
       go true p d q w h = never (sym p ∙ h)
       go false p false q w h = q
       go false p true q w h =
-          let r = both-parts (ltb at (onward b (way at turns))) (ltb (onward b (way at turns)) end) q in
-          let u = ltb-true at (onward b (way at turns)) (r .0) in
-          let v = ltb-true (onward b (way at turns)) end (r .1) in
+          let r = both-parts (ltb at (childOf b (descent at bits))) (ltb (childOf b (descent at bits)) end) q in
+          let u = ltb-true at (childOf b (descent at bits)) (r .0) in
+          let v = ltb-true (childOf b (descent at bits)) end (r .1) in
           w v (omega arith) h
 
   -- the first entry that is this name, if it is reached
-  way-finds : (i at turns left : ℕ) → Reach b i at turns → i < end → end ≤ at + left → ((k : ℕ) → k < i → namedAt t b k x n g ≡ false) → namedAt t b i x n g ≡ true
-      → W at turns left .at ≡ i
-  unfolding wayFrom
-  way-finds i at turns zero r l m f e = absurd (omega (arith, reach-le r))
-  way-finds i at turns (suc left) (here h) l m f e = let c : namedAt t b at x n g ≡ true = rw h e in rw c h
-  way-finds i at turns (suc left) (onto h r) l m f e =
+  descent-finds : (i at bits left : ℕ) → Reach b i at bits → i < end → end ≤ at + left → ((k : ℕ) → k < i → namedAt t b k x n g ≡ false) → namedAt t b i x n g ≡ true
+      → W at bits left .at ≡ i
+  unfolding descentFrom
+  descent-finds i at bits zero r l m f e = absurd (omega (arith, reach-le r))
+  descent-finds i at bits (suc left) (here h) l m f e = let c : namedAt t b at x n g ≡ true = rw h e in rw c h
+  descent-finds i at bits (suc left) (onto h r) l m f e =
       let j = reach-le r in
       let a : at < i = omega arith in
       let c : namedAt t b at x n g ≡ false = f at a in
-      rw (c, lt-ltb at (length b / 4) (omega arith), lt-ltb at (linkFrom b (side turns) at) h, lt-ltb (linkFrom b (side turns) at) end (omega arith))
-      (way-finds i (linkFrom b (side turns) at) (turns * 2 % 4294967296) left r l (omega arith) f e)
+      rw (c, lt-ltb at (length b / 4) (omega arith), lt-ltb at (linkFrom b (side bits) at) h, lt-ltb (linkFrom b (side bits) at) end (omega arith))
+      (descent-finds i (linkFrom b (side bits) at) (bits * 2 % 4294967296) left r l (omega arith) f e)
 
 -- the first of some entries that is this name, or their end
 pub record First (t b : List ℕ) (x n g k end j : ℕ) : Type 0 where
@@ -195,8 +195,8 @@ module _ (t b : List ℕ) (x n g : ℕ) (s : St) (T : Tree t b (known b s) (s .r
   abbrev J : ℕ
   J = lookup t b x n g 0 (known b s)
 
-  abbrev E : Way
-  E = wayFrom t b (known b s) x n g (way (s .root - 1) (turnsOf t x (sigilCode g) n)) (known b s)
+  abbrev E : Descent
+  E = descentFrom t b (known b s) x n g (descent (s .root - 1) (hashOf t x (sigilCode g) n)) (known b s)
 
   in-order : First t b x n g 0 N J
   in-order = let z : 0 + known b s ≡ known b s = omega arith in rw z at (lookup-first t b x n g 0 (known b s))
@@ -211,7 +211,7 @@ module _ (t b : List ℕ) (x n g : ℕ) (s : St) (T : Tree t b (known b s) (s .r
   end-name : 0 < s .root → (E .at < N) × (E .at < 32768) × (kindAt b (4 * E .at) ≡ 50)
   end-name w =
       let q = T .first w in
-      walk-name T (way-walks t b N x n g (omega arith) (s .root - 1) (turnsOf t x (sigilCode g) n) N (q .0)) (q .0) (q .1) (q .2)
+      walk-name T (descent-walks t b N x n g (omega arith) (s .root - 1) (hashOf t x (sigilCode g) n) N (q .0)) (q .0) (q .1) (q .2)
 
   not-found : 0 < s .root → ((i : ℕ) → i < N → i < 32768 → i < J)
       → First t b x n g 0 N (pick (both (ltb (E .at) N) (namedAt t b (E .at) x n g)) (E .at) (lookup t b x n g (min N 32768) (N - 32768)))
@@ -226,22 +226,22 @@ module _ (t b : List ℕ) (x n g : ℕ) (s : St) (T : Tree t b (known b s) (s .r
   by-tree w (yes d) (yes e) =
       let F = in-order in
       let i = named-is t b J x n g (F .is d) in
-      let r : Reach b J (s .root - 1) (turnsOf t x (sigilCode g) n) = rw (i .2) at (T .reached w J d e (i .1)) in
-      let c : E .at ≡ J = way-finds t b N x n g (omega arith) J (s .root - 1) (turnsOf t x (sigilCode g) n) N r d (omega arith) (λ k l. F .before k (omega arith) l) (F .is d) in
+      let r : Reach b J (s .root - 1) (hashOf t x (sigilCode g) n) = rw (i .2) at (T .reached w J d e (i .1)) in
+      let c : E .at ≡ J = descent-finds t b N x n g (omega arith) J (s .root - 1) (hashOf t x (sigilCode g) n) N r d (omega arith) (λ k l. F .before k (omega arith) l) (F .is d) in
       rw (c, lt-ltb J N d, F .is d) F
   by-tree w (yes d) (no e) = not-found w (λ i l m. omega arith)
   by-tree w (no d) e = not-found w (λ i l m. omega arith)
 
-  seek-first : First t b x n g 0 N (seek t b s x n g)
-  unfolding seek wayTo
+  seek-first : First t b x n g 0 N (entryOf t b s x n g)
+  unfolding entryOf descentTo
   seek-first = which (decLt 0 (s .root))
     where
       which : Dec (0 < s .root) → First t b x n g 0 N (pick (both (ltb 0 (s .root)) (both (ltb (E .at) N) (namedAt t b (E .at) x n g))) (E .at) (lookup t b x n g (min N 32768) (N - 32768)))
       which (yes w) = rw (lt-ltb 0 (s .root) w) (by-tree w (decLt J N) (decLt J 32768))
       which (no w) = rw (le-ltb 0 (s .root) (omega arith)) (late (λ i l m e. T .none (omega arith) i l m (named-is t b i x n g e .1)))
 
-  pub seek-is : seek t b s x n g ≡ J
-  seek-is = first-same t b x n g 0 N (seek t b s x n g) J seek-first in-order
+  pub seek-is : entryOf t b s x n g ≡ J
+  seek-is = first-same t b x n g 0 N (entryOf t b s x n g) J seek-first in-order
 
 -- One entry more: what stands before it is the same, but that one link may lead to it.
 pub data NewLink (b b′ : List ℕ) (n k : ℕ) (h : Bool) : Type 0 where
@@ -256,18 +256,18 @@ pub record Grown (b b′ : List ℕ) (n : ℕ) : Type 0 where
   pub leading : (k : ℕ) → k < n → (h : Bool) → k < linkFrom b h k → linkFrom b h k < n → linkFrom b′ h k ≡ linkFrom b h k
   pub new : (k : ℕ) → k < n → (h : Bool) → NewLink b b′ n k h
 
-reach-grown : {b b′ : List ℕ} {n i at turns : ℕ} → Grown b b′ n → i < n → Reach b i at turns → Reach b′ i at turns
+reach-grown : {b b′ : List ℕ} {n i at bits : ℕ} → Grown b b′ n → i < n → Reach b i at bits → Reach b′ i at bits
 reach-grown G l (here e) = here e
-reach-grown G l (onto {at} {turns} h r) =
+reach-grown G l (onto {at} {bits} h r) =
     let m = reach-le r in
-    let e = G .leading at (omega arith) (side turns) h (omega arith) in
-    onto {at = at} {turns = turns} (rw e h) (rw e (reach-grown G l r))
+    let e = G .leading at (omega arith) (side bits) h (omega arith) in
+    onto {at = at} {bits = bits} (rw e h) (rw e (reach-grown G l r))
 
-walk-grown : {b b′ : List ℕ} {n i e u at turns : ℕ} → Grown b b′ n → Walk b n e u at turns → Reach b′ i e u → Reach b′ i at turns
+walk-grown : {b b′ : List ℕ} {n i e u at bits : ℕ} → Grown b b′ n → Walk b n e u at bits → Reach b′ i e u → Reach b′ i at bits
 walk-grown G (stay p q) r = rw (p, q) r
-walk-grown G (move {at} {turns} h l w) r =
-    let e = G .leading at (omega arith) (side turns) h l in
-    onto {at = at} {turns = turns} (rw e h) (rw e (walk-grown G w r))
+walk-grown G (move {at} {bits} h l w) r =
+    let e = G .leading at (omega arith) (side bits) h l in
+    onto {at = at} {bits = bits} (rw e h) (rw e (walk-grown G w r))
 
 -- the entry that is new, if it is a name: it has no links, and it is reached if a tree may hold it
 pub record Fresh (t b : List ℕ) (n root : ℕ) : Type 0 where
@@ -456,7 +456,7 @@ module _ (b : List ℕ) (n e u h x y z : ℕ) (room : n < length b / 4) (small :
   new-link = rw word-linked (link-set (side u) (getD b (4 * e + 3) 0) n small)
 
   reached-new : Reach grownBook n e u
-  reached-new = onto {at = e} {turns = u} (rw new-link before) (here new-link)
+  reached-new = onto {at = e} {bits = u} (rw new-link before) (here new-link)
 
 -- codes of sigils
 code-small : (g : ℕ) → sigilCode g < 3
@@ -484,7 +484,7 @@ code-whole g = go (eqb g 36) (eqb g 37)
     go false false = refl
 
 fresh-new : (t b : List ℕ) (n h x m g root : ℕ) → n < length b / 4 → (n < 32768 → 0 < root)
-    → (n < 32768 → Reach (four b n h x m (sigilCode g)) n (root - 1) (turnsOf t x (sigilCode g) m)) → Fresh t (four b n h x m (sigilCode g)) n root
+    → (n < 32768 → Reach (four b n h x m (sigilCode g)) n (root - 1) (hashOf t x (sigilCode g) m)) → Fresh t (four b n h x m (sigilCode g)) n root
 fresh-new t b n h x m g root room w r = record {
   no-links = λ s. rw (four-last b n h x m (sigilCode g) room) (none s (sigilCode g) (code-small g));
   sigil = rw (four-last b n h x m (sigilCode g) room, code-whole g) (code-of g);
@@ -501,24 +501,24 @@ pub tree-other : (t b : List ℕ) (n root h x y z : ℕ) → n < length b / 4 �
 tree-other t b n root h x y z room k T =
     tree-grown t b (four b n h x y z) n (four-grown b n h x y z room) root T (λ e. absurd (k (rw (four-head b n h x y z room) at e)))
 
-pub linked-length : (t b : List ℕ) (x n g : ℕ) (s : St) → length (linked t b s x n g) ≡ length b
+pub linked-length : (t b : List ℕ) (x n g : ℕ) (s : St) → length (linked b s (descentTo t b s x n g)) ≡ length b
 unfolding linked linkedAt
-linked-length t b x n g s = go (both (ltb 0 (s .root)) (mayLink b s)) (ltb (wayTo t b s x n g .at) (length b / 4))
+linked-length t b x n g s = go (both (ltb 0 (s .root)) (mayLink b s)) (ltb (descentTo t b s x n g .at) (length b / 4))
   where
-    go : (c d : Bool) → length (pick c (pick d (linkBook b (s .entries) (wayTo t b s x n g .at) (wayTo t b s x n g .turns)) b) b) ≡ length b
-    go true true = length-set b (4 * wayTo t b s x n g .at + 3) (withLink (side (wayTo t b s x n g .turns)) (getD b (4 * wayTo t b s x n g .at + 3) 0) (s .entries))
+    go : (c d : Bool) → length (pick c (pick d (linkBook b (s .entries) (descentTo t b s x n g .at) (descentTo t b s x n g .bits)) b) b) ≡ length b
+    go true true = length-set b (4 * descentTo t b s x n g .at + 3) (withLink (side (descentTo t b s x n g .bits)) (getD b (4 * descentTo t b s x n g .at + 3) 0) (s .entries))
     go true false = refl
     go false d = refl
 
 -- what is linked: nothing, or an earlier name
 pub data Linking (t b : List ℕ) (x n g : ℕ) (s : St) : Type 0 where
-  from-none : linked t b s x n g ≡ b → Linking t b x n g s
-  from-name : (e u : ℕ) → linked t b s x n g ≡ linkBook b (s .entries) e u → e < s .entries → kindAt b (4 * e) ≡ 50 → Linking t b x n g s
+  from-none : linked b s (descentTo t b s x n g) ≡ b → Linking t b x n g s
+  from-name : (e u : ℕ) → linked b s (descentTo t b s x n g) ≡ linkBook b (s .entries) e u → e < s .entries → kindAt b (4 * e) ≡ 50 → Linking t b x n g s
 
--- a new name: where its way ends nothing leads on
-module _ (t b : List ℕ) (x n g h : ℕ) (s : St) (T : Tree t b (known b s) (s .root)) (absent : seek t b s x n g ≡ known b s) (room : s .entries < length b / 4) (named : kind h ≡ 50) where
-  abbrev D : Way
-  D = wayTo t b s x n g
+-- a new name: where its descent ends there is no child
+module _ (t b : List ℕ) (x n g h : ℕ) (s : St) (T : Tree t b (known b s) (s .root)) (absent : entryOf t b s x n g ≡ known b s) (room : s .entries < length b / 4) (named : kind h ≡ 50) where
+  abbrev D : Descent
+  D = descentTo t b s x n g
 
   known-is : known b s ≡ s .entries
   known-is = omega arith
@@ -527,7 +527,7 @@ module _ (t b : List ℕ) (x n g h : ℕ) (s : St) (T : Tree t b (known b s) (s 
   T′ = rw known-is at T
 
   end-known : 0 < s .root → (D .at < known b s) × (D .at < 32768) × (kindAt b (4 * D .at) ≡ 50)
-  unfolding wayTo
+  unfolding descentTo
   end-known w = end-name t b x n g s T w
 
   end-is : 0 < s .root → (D .at < s .entries) × (D .at < 32768) × (kindAt b (4 * D .at) ≡ 50)
@@ -536,26 +536,26 @@ module _ (t b : List ℕ) (x n g h : ℕ) (s : St) (T : Tree t b (known b s) (s 
   end-unnamed : 0 < s .root → namedAt t b (D .at) x n g ≡ false
   end-unnamed w = let q = end-is w in seek-first t b x n g s T .before (D .at) (omega arith) (rw (absent, known-is) (q .0))
 
-  end-stops : 0 < s .root → leads b (known b s) D ≡ false
-  unfolding wayTo
-  end-stops w = let f = T .first w in way-stops t b (known b s) x n g (omega arith) (s .root - 1) (turnsOf t x (sigilCode g) n) (known b s) (f .0) (omega arith) (end-unnamed w)
+  end-stops : 0 < s .root → hasChild b (known b s) D ≡ false
+  unfolding descentTo
+  end-stops w = let f = T .first w in descent-stops t b (known b s) x n g (omega arith) (s .root - 1) (hashOf t x (sigilCode g) n) (known b s) (f .0) (omega arith) (end-unnamed w)
 
-  end-free : 0 < s .root → both (ltb (D .at) (linkFrom b (side (D .turns)) (D .at))) (ltb (linkFrom b (side (D .turns)) (D .at)) (s .entries)) ≡ false
+  end-free : 0 < s .root → both (ltb (D .at) (linkFrom b (side (D .bits)) (D .at))) (ltb (linkFrom b (side (D .bits)) (D .at)) (s .entries)) ≡ false
   end-free w = let q = end-is w in rw (known-is, lt-ltb (D .at) (length b / 4) (omega arith)) at (end-stops w)
 
-  walk-known : 0 < s .root → Walk b (known b s) (D .at) (D .turns) (s .root - 1) (turnsOf t x (sigilCode g) n)
-  unfolding wayTo
-  walk-known w = let f = T .first w in way-walks t b (known b s) x n g (omega arith) (s .root - 1) (turnsOf t x (sigilCode g) n) (known b s) (f .0)
+  walk-known : 0 < s .root → Walk b (known b s) (D .at) (D .bits) (s .root - 1) (hashOf t x (sigilCode g) n)
+  unfolding descentTo
+  walk-known w = let f = T .first w in descent-walks t b (known b s) x n g (omega arith) (s .root - 1) (hashOf t x (sigilCode g) n) (known b s) (f .0)
 
-  end-walk : 0 < s .root → Walk b (s .entries) (D .at) (D .turns) (s .root - 1) (turnsOf t x (sigilCode g) n)
+  end-walk : 0 < s .root → Walk b (s .entries) (D .at) (D .bits) (s .root - 1) (hashOf t x (sigilCode g) n)
   end-walk w = rw known-is at (walk-known w)
 
   -- the book that the entry is put into, and the root
-  not-linked : both (ltb 0 (s .root)) (ltb (s .entries) 32768) ≡ false → linked t b s x n g ≡ b
+  not-linked : both (ltb 0 (s .root)) (ltb (s .entries) 32768) ≡ false → linked b s (descentTo t b s x n g) ≡ b
   unfolding linked
   not-linked e = rw (lt-ltb (s .entries) (length b / 4) room, e)
 
-  is-linked : 0 < s .root → s .entries < 32768 → linked t b s x n g ≡ linkBook b (s .entries) (D .at) (D .turns)
+  is-linked : 0 < s .root → s .entries < 32768 → linked b s (descentTo t b s x n g) ≡ linkBook b (s .entries) (D .at) (D .bits)
   unfolding linked linkedAt
   is-linked w l = let q = end-is w in rw (lt-ltb 0 (s .root) w, lt-ltb (s .entries) (length b / 4) room, lt-ltb (s .entries) 32768 l, lt-ltb (D .at) (length b / 4) (omega arith))
 
@@ -571,14 +571,14 @@ module _ (t b : List ℕ) (x n g h : ℕ) (s : St) (T : Tree t b (known b s) (s 
   linking = go (decLt 0 (s .root)) (decLt (s .entries) 32768)
     where
       go : Dec (0 < s .root) → Dec (s .entries < 32768) → Linking t b x n g s
-      go (yes w) (yes l) = let q = end-is w in from-name (D .at) (D .turns) (is-linked w l) (q .0) (q .2)
+      go (yes w) (yes l) = let q = end-is w in from-name (D .at) (D .bits) (is-linked w l) (q .0) (q .2)
       go (no w) l = from-none (not-linked (rw (le-ltb 0 (s .root) (omega arith))))
       go (yes w) (no l) = from-none (not-linked (rw (le-ltb (s .entries) 32768 (omega arith)) (both-false (ltb 0 (s .root)))))
 
-  pub tree-name : Tree t (four (linked t b s x n g) (s .entries) h x n (sigilCode g)) (s .entries + 1) (rootOf b s)
+  pub tree-name : Tree t (four (linked b s (descentTo t b s x n g)) (s .entries) h x n (sigilCode g)) (s .entries + 1) (rootOf b s)
   tree-name = go (decLt 0 (s .root)) (decLt (s .entries) 32768)
     where
-      go : Dec (0 < s .root) → Dec (s .entries < 32768) → Tree t (four (linked t b s x n g) (s .entries) h x n (sigilCode g)) (s .entries + 1) (rootOf b s)
+      go : Dec (0 < s .root) → Dec (s .entries < 32768) → Tree t (four (linked b s (descentTo t b s x n g)) (s .entries) h x n (sigilCode g)) (s .entries + 1) (rootOf b s)
       go w (no l) =
           rw (not-linked (rw (le-ltb (s .entries) 32768 (omega arith)) (both-false (ltb 0 (s .root)))), root-stays (rw (le-ltb (s .entries) 32768 (omega arith)) (both-false (eqb (s .root) 0))))
           (tree-grown t b (four b (s .entries) h x n (sigilCode g)) (s .entries) (four-grown b (s .entries) h x n (sigilCode g) room) (s .root) T′
@@ -591,9 +591,9 @@ module _ (t b : List ℕ) (x n g h : ℕ) (s : St) (T : Tree t b (known b s) (s 
           (fresh-new t b (s .entries) h x n g (s .entries + 1) room (λ i. omega arith) (λ i. here (omega arith))))
       go (yes w) (yes l) =
           let q = end-is w in
-          let G = linked-grown b (s .entries) (D .at) (D .turns) h x n (sigilCode g) room l (q .0) named (end-free w) in
-          let r = reached-new b (s .entries) (D .at) (D .turns) h x n (sigilCode g) room l (q .0) named (end-free w) in
-          let m = linked-room b (s .entries) (D .at) (D .turns) h x n (sigilCode g) room l (q .0) named (end-free w) in
+          let G = linked-grown b (s .entries) (D .at) (D .bits) h x n (sigilCode g) room l (q .0) named (end-free w) in
+          let r = reached-new b (s .entries) (D .at) (D .bits) h x n (sigilCode g) room l (q .0) named (end-free w) in
+          let m = linked-room b (s .entries) (D .at) (D .bits) h x n (sigilCode g) room l (q .0) named (end-free w) in
           rw (is-linked w l, root-stays (rw (ne-eqb (s .root) 0 (λ e. omega arith))))
-          (tree-grown t b (four (linkBook b (s .entries) (D .at) (D .turns)) (s .entries) h x n (sigilCode g)) (s .entries) G (s .root) T′
-          (λ e. fresh-new t (linkBook b (s .entries) (D .at) (D .turns)) (s .entries) h x n g (s .root) m (λ i. w) (λ i. walk-grown G (end-walk w) r)))
+          (tree-grown t b (four (linkBook b (s .entries) (D .at) (D .bits)) (s .entries) h x n (sigilCode g)) (s .entries) G (s .root) T′
+          (λ e. fresh-new t (linkBook b (s .entries) (D .at) (D .bits)) (s .entries) h x n g (s .root) m (λ i. w) (λ i. walk-grown G (end-walk w) r)))

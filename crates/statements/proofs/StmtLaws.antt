@@ -19,7 +19,7 @@ use Rattle.sheet.specs.Tree.{stmtNode, stmtAt, stmtsAt, shapeOf}
 use Rattle.sheet.proofs.Shapes.{fields-rule}
 use Rattle.rules.specs.declared.types.«Type».the-variants.{Real}
 use Rattle.rules.specs.Stmt.{compileStmt, compileStmts, elseJump, endHere}
-use Rattle.nodes.specs.Done.{CompiledTyped, CountAt}
+use Rattle.nodes.specs.Compiled.{CompiledTyped, PayloadAt}
 use Rattle.expressions.specs.Body.{Body}
 use Rattle.expressions.proofs.ExprLaws.{Head}
 use Rattle.statements.specs.Shapes.{shapeBy}
@@ -140,10 +140,10 @@ unfolding stmtsAt compileStmts
 more-stmts s t base left p q zero m m1 z d x e = absurd (omega arith)
 more-stmts s t base left p q (suc n) m m1 z d x e = rw (sub-one, x .place, x .result) e
 
-pub no-more : (s t : List ℕ) (base left at c a p n : ℕ) (m m1 : Mem) → CountAt s at c a → n ≤ 0
+pub no-more : (s t : List ℕ) (base left at c a p n : ℕ) (m m1 : Mem) → PayloadAt s at c a → n ≤ 0
     → skipRepeat s (skipNode s left stmtSort) n p ≡ skipRepeat s (skipNode s left stmtSort) c a
     → compileStmts (memR t) t base (stmtsAt s (stmtAt s left) (skipNode s left stmtSort) n p) m1 ≡ compileStmts (memR t) t base (stmtsAt s (stmtAt s left) (skipNode s left stmtSort) c a) m
     → CompiledStmts s t base left at m m1 p
 unfolding stmtsAt skipRepeat skipList compileStmts
-no-more s t base left at c a p zero m m1 k d e f = record { place = rw (← k .count, ← k .place) e; result = rw (← k .count, ← k .place) f }
+no-more s t base left at c a p zero m m1 k d e f = record { place = rw (← k .value, ← k .place) e; result = rw (← k .value, ← k .place) f }
 no-more s t base left at c a p (suc n) m m1 k d e f = absurd (omega arith)

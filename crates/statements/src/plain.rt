@@ -1,5 +1,5 @@
 // Statements by their shapes' places in Shape, all but IF: each is compiled by its own function.
-use expressions::expr::Went;
+use expressions::expr::Behind;
 use recorder::codegen::St;
 use recorder::word::Range;
 ghost use mathlib.Core.Path.{_≡_};
@@ -21,7 +21,7 @@ fn rem_to_draw(
     k: u32,
     r: Range,
     n: u8,
-) -> Went
+) -> Behind
     ensures { λ x. ⌜ (n < 8 → Body (now (sheet .entry)) (now (text .entry)) base left (shapeBy n) k r at (mem (now (list .entry)) (now (notes .entry)) (now (book .entry)) st) (mem (now (list .exit)) (now (notes .exit)) (now (book .exit)) (x .st)) (x .at)) ⌝ }
 {
     match n {
@@ -42,7 +42,7 @@ fn rem_to_draw(
             k,
             r,
         ),
-        5 => operations::op::compile_get_put(
+        5 => operations::op::compile_binary_stmt(
             sheet,
             text,
             list,
@@ -81,7 +81,7 @@ fn rem_to_draw(
             k,
             r,
         ),
-        _ => Went { st, at },
+        _ => Behind { st, at },
     }
 }
 
@@ -98,7 +98,7 @@ fn set_to_goto(
     k: u32,
     r: Range,
     n: u8,
-) -> Went
+) -> Behind
     ensures { λ x. ⌜ (8 ≤ n → n < 16 → Body (now (sheet .entry)) (now (text .entry)) base left (shapeBy n) k r at (mem (now (list .entry)) (now (notes .entry)) (now (book .entry)) st) (mem (now (list .exit)) (now (notes .exit)) (now (book .exit)) (x .st)) (x .at)) ⌝ }
 {
     match n {
@@ -129,10 +129,10 @@ fn set_to_goto(
             left,
             r,
         ),
-        13 => loops::count::compile_for(sheet, text, list, notes, book, st, base, at, left, r),
+        13 => loops::for_loop::compile_for(sheet, text, list, notes, book, st, base, at, left, r),
         14 => jumps::jump::compile_gosub(sheet, list, st, at, r),
         15 => jumps::jump::compile_goto(sheet, list, st, at, r),
-        _ => Went { st, at },
+        _ => Behind { st, at },
     }
 }
 
@@ -149,7 +149,7 @@ fn input_to_open(
     k: u32,
     r: Range,
     n: u8,
-) -> Went
+) -> Behind
     ensures { λ x. ⌜ (17 ≤ n → n < 24 → Body (now (sheet .entry)) (now (text .entry)) base left (shapeBy n) k r at (mem (now (list .entry)) (now (notes .entry)) (now (book .entry)) st) (mem (now (list .exit)) (now (notes .exit)) (now (book .exit)) (x .st)) (x .at)) ⌝ }
 {
     match n {
@@ -168,8 +168,19 @@ fn input_to_open(
             k,
             r,
         ),
-        20 => places::place::compile_locate(sheet, text, list, notes, book, st, base, at, left, r),
-        21 => loops::count::compile_next(sheet, text, list, notes, book, st, base, at, r),
+        20 => operations::locate::compile_locate(
+            sheet,
+            text,
+            list,
+            notes,
+            book,
+            st,
+            base,
+            at,
+            left,
+            r,
+        ),
+        21 => loops::for_loop::compile_next(sheet, text, list, notes, book, st, base, at, r),
         22 => jumps::jump::compile_on(sheet, text, list, notes, book, st, base, at, left, r),
         23 => transfers::opens::compile_open(
             sheet,
@@ -184,7 +195,7 @@ fn input_to_open(
             k,
             r,
         ),
-        _ => Went { st, at },
+        _ => Behind { st, at },
     }
 }
 
@@ -201,7 +212,7 @@ fn print_to_write(
     k: u32,
     r: Range,
     n: u8,
-) -> Went
+) -> Behind
     ensures { λ x. ⌜ (24 ≤ n → n < 31 → Body (now (sheet .entry)) (now (text .entry)) base left (shapeBy n) k r at (mem (now (list .entry)) (now (notes .entry)) (now (book .entry)) st) (mem (now (list .exit)) (now (notes .exit)) (now (book .exit)) (x .st)) (x .at)) ⌝ }
 {
     match n {
@@ -222,7 +233,18 @@ fn print_to_write(
         26 => jumps::jump::compile_restore(sheet, list, st, at, r),
         27 => places::place::compile_swap(sheet, text, list, notes, book, st, base, at, left, r),
         28 => operations::op::compile_system(notes, st, at, r),
-        29 => operations::op::compile_while(sheet, text, list, notes, book, st, base, at, left, r),
+        29 => loops::while_loop::compile_while(
+            sheet,
+            text,
+            list,
+            notes,
+            book,
+            st,
+            base,
+            at,
+            left,
+            r,
+        ),
         30 => prints::writes::compile_write(
             sheet,
             text,
@@ -236,7 +258,7 @@ fn print_to_write(
             k,
             r,
         ),
-        _ => Went { st, at },
+        _ => Behind { st, at },
     }
 }
 
@@ -253,7 +275,7 @@ pub fn compile_plain(
     k: u32,
     r: Range,
     n: u8,
-) -> Went
+) -> Behind
     ensures { λ x. ⌜ (n < 31 → (n ≡ 16 → ⊥) → Body (now (sheet .entry)) (now (text .entry)) base left (shapeBy n) k r at (mem (now (list .entry)) (now (notes .entry)) (now (book .entry)) st) (mem (now (list .exit)) (now (notes .exit)) (now (book .exit)) (x .st)) (x .at)) ⌝ }
 {
     if n < 8 {

@@ -1,6 +1,6 @@
 // compile_stmt and compile_if of compiler.rs: an IF, its branches and their statements call each other; the remaining depth
 // falls.
-use expressions::expr::Went;
+use expressions::expr::Behind;
 use recorder::codegen::St;
 use recorder::label::Addr;
 use recorder::word::Range;
@@ -84,7 +84,7 @@ fn compile_if(
     at: usize,
     left: usize,
     r: Range,
-) -> Went
+) -> Behind
     ensures { λ x. ⌜ IfBody (now (sheet .entry)) (now (text .entry)) base left r at (mem (now (list .entry)) (now (notes .entry)) (now (book .entry)) st) (mem (now (list .exit)) (now (notes .exit)) (now (book .exit)) (x .st)) (x .at) ⌝ }
 {
     let h = if_head(sheet, text, list, notes, book, st, base, at, left, r);
@@ -93,9 +93,9 @@ fn compile_if(
     let x = compile_stmts(sheet, text, list, notes, book, hs, base, h.at, left);
     let xs = x.st;
     let p = x.at;
-    if sheet::expr::is_absent(sheet, p) {
+    if sheet::leaf::is_absent(sheet, p) {
         end_here(list, xs, jump);
-        return Went {
+        return Behind {
             st: xs,
             at: recorder::word::behind(sheet, p),
         };
@@ -105,7 +105,7 @@ fn compile_if(
     let y = compile_stmts(sheet, text, list, notes, book, es, base, p, left);
     let ys = y.st;
     end_here(list, ys, over);
-    Went { st: ys, at: y.at }
+    Behind { st: ys, at: y.at }
 }
 
 pub fn compile_stmt(
@@ -118,13 +118,13 @@ pub fn compile_stmt(
     base: u32,
     at: usize,
     left: usize,
-) -> Went
+) -> Behind
     ensures { λ x. ⌜ CompiledStmt (now (sheet .entry)) (now (text .entry)) base left at (mem (now (list .entry)) (now (notes .entry)) (now (book .entry)) st) (mem (now (list .exit)) (now (notes .exit)) (now (book .exit)) (x .st)) (x .at) ⌝ }
 {
-    let r = expressions::expr::expr_range(sheet, at);
+    let r = expressions::expr::node_range(sheet, at);
     if left == 0 {
         let s = recorder::codegen::emit_no_op(list, st, r);
-        return Went { st: s, at };
+        return Behind { st: s, at };
     }
     let k = recorder::word::payload_at(sheet, at);
     let n = crate::shape::shape_of(k);
@@ -159,18 +159,18 @@ pub fn compile_stmts(
     base: u32,
     at: usize,
     left: usize,
-) -> Went
+) -> Behind
     ensures { λ x. ⌜ CompiledStmts (now (sheet .entry)) (now (text .entry)) base left at (mem (now (list .entry)) (now (notes .entry)) (now (book .entry)) st) (mem (now (list .exit)) (now (notes .exit)) (now (book .exit)) (x .st)) (x .at) ⌝ }
 {
-    let c = expressions::expr::count_at(sheet, at);
+    let c = expressions::expr::read_payload(sheet, at);
     let mut s = st;
     let mut p = c.at;
-    let mut more = c.count;
+    let mut more = c.value;
     while 0 < more {
         let x = compile_stmt(sheet, text, list, notes, book, s, base, p, left);
         s = x.st;
         p = x.at;
         more -= 1;
     }
-    Went { st: s, at: p }
+    Behind { st: s, at: p }
 }

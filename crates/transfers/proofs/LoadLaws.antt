@@ -15,16 +15,16 @@ use Rattle.recorder.specs.Mem.{Mem, mem, memR, byteList, byteSt}
 use Rattle.sheet.specs.declared.form.Sort.the-variants.{Expr as exprSort}
 use Rattle.sheet.specs.declared.form.Shape.the-variants.{Load}
 use Rattle.sheet.specs.Skip.{skipNode, skipRepeat, skipList, skipFields, skipField, skipTimes, skipPair, skipItem}
-use Rattle.sheet.specs.Tree.{absent, given, Expr, Exprs, more, numberLit, exprRange, count, mantissaAt, exprAt, exprNode, exprsAt, stmtNode}
+use Rattle.sheet.specs.Tree.{absent, given, Expr, Exprs, more, numberLit, exprRange, count, mantissaAt, exprAt, exprNode, exprsAt, stmtNode, argsAt}
 use Rattle.rules.specs.declared.types.«Type».the-variants.{Real}
 use Rattle.rules.specs.Name.{textPlace}
 use Rattle.rules.specs.Expr.{compileTyped}
 use Rattle.rules.specs.Stmt.{compileStmt, ByteRead, fresh, signed, byteSoFar, noByte, upTo255, digit, plus, byteUnit, byteUnits, finalByte, byteOf, allGiven, badByte, badBytes, allBytes, loadByte, loadBytes, loadNode, compileLoad}
-use Rattle.nodes.specs.Done.{CompiledTyped, CountAt}
+use Rattle.nodes.specs.Compiled.{CompiledTyped, PayloadAt}
 use Rattle.expressions.specs.Body.{Body}
 use Rattle.expressions.proofs.Lists.{exprs-step, repeat-step}
 use Rattle.expressions.proofs.ExprLaws.{range-of, how-many}
-use Rattle.transfers.specs.Moved.{readOf, optByte, BytesNoted, Loaded}
+use Rattle.transfers.specs.Parts.{readOf, optByte, BytesNoted, Loaded}
 
 -- reading a byte
 pub byte-fits : (n : ℕ) → n < 256 → readOf n ≡ upTo255 n
@@ -165,15 +165,15 @@ bad-more t base e es m = refl
 
 pub bad-step : (s t : List ℕ) (base left n at p v : ℕ) (r : Range) (m m1 : Mem) → 0 < n → optByte v ≡ byteOf t base (exprAt s left at) → r ≡ rangeAt s (next s at)
     → m1 ≡ badByte (memR t) t base (optByte v) r m → p ≡ skipNode s left exprSort at
-    → badBytes (memR t) t base (exprsAt s (exprAt s left) (skipNode s left exprSort) (n - 1) p) m1
-    ≡ badBytes (memR t) t base (exprsAt s (exprAt s left) (skipNode s left exprSort) n at) m
+    → badBytes (memR t) t base (argsAt s left (n - 1) p) m1
+    ≡ badBytes (memR t) t base (argsAt s left n at) m
 bad-step s t base left n at p v r m m1 h hv hr e hp =
     let f : m1 ≡ badByte (memR t) t base (byteOf t base (exprAt s left at)) (exprRange (exprAt s left at)) m = e ∙ ap (λ z. badByte (memR t) t base z r m) hv ∙ ap (λ z. badByte (memR t) t base (byteOf t base (exprAt s left at)) z m) (hr ∙ inv (range-of s left at)) in
     rw (exprs-step s (exprAt s left) (skipNode s left exprSort) n at h, bad-more, f, hp)
 
 pub bad-end : (s t : List ℕ) (base left n k at at₀ : ℕ) (o o₀ : List ℕ) (x x₀ : St) → n ≤ 0 → skipRepeat s (skipNode s left exprSort) n at ≡ skipRepeat s (skipNode s left exprSort) k at₀
-    → ((l b : List ℕ) → badBytes (memR t) t base (exprsAt s (exprAt s left) (skipNode s left exprSort) n at) (mem l o b x)
-    ≡ badBytes (memR t) t base (exprsAt s (exprAt s left) (skipNode s left exprSort) k at₀) (mem l o₀ b x₀))
+    → ((l b : List ℕ) → badBytes (memR t) t base (argsAt s left n at) (mem l o b x)
+    ≡ badBytes (memR t) t base (argsAt s left k at₀) (mem l o₀ b x₀))
     → BytesNoted s t base left k at₀ o₀ x₀ o x at
 unfolding exprsAt badBytes skipRepeat
 bad-end s t base left zero k at at₀ o o₀ x x₀ h p q = record { place = p; result = q }
@@ -184,21 +184,21 @@ unfolding allBytes
 all-more t base e es = refl
 
 pub all-step : (s t : List ℕ) (base left n at p v : ℕ) → 0 < n → optByte v ≡ byteOf t base (exprAt s left at) → v ≤ 255 → p ≡ skipNode s left exprSort at
-    → allBytes (memR t) t base (exprsAt s (exprAt s left) (skipNode s left exprSort) (n - 1) p) ≡ allBytes (memR t) t base (exprsAt s (exprAt s left) (skipNode s left exprSort) n at)
+    → allBytes (memR t) t base (argsAt s left (n - 1) p) ≡ allBytes (memR t) t base (argsAt s left n at)
 all-step s t base left n at p v h hv i hp =
     let j : v < 256 = omega (arith, i) in
     let f : byteOf t base (exprAt s left at) ≡ given v = inv hv ∙ ap (λ z. pick z (given v) absent) (lt-ltb _ _ j) in
     rw (exprs-step s (exprAt s left) (skipNode s left exprSort) n at h, all-more, f, hp)
 
-pub all-stop : (s t : List ℕ) (base left n at v : ℕ) (b : Bool) → 0 < n → allBytes (memR t) t base (exprsAt s (exprAt s left) (skipNode s left exprSort) n at) ≡ b
+pub all-stop : (s t : List ℕ) (base left n at v : ℕ) (b : Bool) → 0 < n → allBytes (memR t) t base (argsAt s left n at) ≡ b
     → optByte v ≡ byteOf t base (exprAt s left at) → 255 < v → false ≡ b
 all-stop s t base left n at v b h q hv i =
     let j : 256 ≤ v = omega (arith, i) in
     let f : byteOf t base (exprAt s left at) ≡ absent = inv hv ∙ ap (λ z. pick z (given v) absent) (le-ltb _ _ j) in
-    let g : allBytes (memR t) t base (exprsAt s (exprAt s left) (skipNode s left exprSort) n at) ≡ false = rw (exprs-step s (exprAt s left) (skipNode s left exprSort) n at h, all-more, f) in
+    let g : allBytes (memR t) t base (argsAt s left n at) ≡ false = rw (exprs-step s (exprAt s left) (skipNode s left exprSort) n at h, all-more, f) in
     inv g ∙ q
 
-pub all-end : (s t : List ℕ) (base left n at : ℕ) (b : Bool) → n ≤ 0 → allBytes (memR t) t base (exprsAt s (exprAt s left) (skipNode s left exprSort) n at) ≡ b → true ≡ b
+pub all-end : (s t : List ℕ) (base left n at : ℕ) (b : Bool) → n ≤ 0 → allBytes (memR t) t base (argsAt s left n at) ≡ b → true ≡ b
 unfolding exprsAt allBytes
 all-end s t base left zero at b h q = q
 all-end s t base left (suc n) at b h q = absurd (omega arith)
@@ -209,13 +209,13 @@ load-more t base e es m = refl
 
 pub load-step : (s t : List ℕ) (base left n at p v : ℕ) (r : Range) (m m1 : Mem) → 0 < n → optByte v ≡ byteOf t base (exprAt s left at) → r ≡ rangeAt s (next s at)
     → m1 ≡ loadByte (memR t) t base (optByte v) r m → p ≡ skipNode s left exprSort at
-    → loadBytes (memR t) t base (exprsAt s (exprAt s left) (skipNode s left exprSort) (n - 1) p) m1
-    ≡ loadBytes (memR t) t base (exprsAt s (exprAt s left) (skipNode s left exprSort) n at) m
+    → loadBytes (memR t) t base (argsAt s left (n - 1) p) m1
+    ≡ loadBytes (memR t) t base (argsAt s left n at) m
 load-step s t base left n at p v r m m1 h hv hr e hp =
     let f : m1 ≡ loadByte (memR t) t base (byteOf t base (exprAt s left at)) (exprRange (exprAt s left at)) m = e ∙ ap (λ z. loadByte (memR t) t base z r m) hv ∙ ap (λ z. loadByte (memR t) t base (byteOf t base (exprAt s left at)) z m) (hr ∙ inv (range-of s left at)) in
     rw (exprs-step s (exprAt s left) (skipNode s left exprSort) n at h, load-more, f, hp)
 
-pub load-end : (s t : List ℕ) (base left n at : ℕ) (m m₀ : Mem) → n ≤ 0 → loadBytes (memR t) t base (exprsAt s (exprAt s left) (skipNode s left exprSort) n at) m ≡ m₀ → m ≡ m₀
+pub load-end : (s t : List ℕ) (base left n at : ℕ) (m m₀ : Mem) → n ≤ 0 → loadBytes (memR t) t base (argsAt s left n at) m ≡ m₀ → m ≡ m₀
 unfolding exprsAt loadBytes
 load-end s t base left zero at m m₀ h q = q
 load-end s t base left (suc n) at m m₀ h q = absurd (omega arith)
@@ -232,41 +232,41 @@ node-some s t base zero r f g at m h = absurd (h refl)
 node-some s t base (suc n) r f g at m h = let e : count (exprsAt s f g n (g at)) ≡ n = how-many s f g n (g at) in rw e
 
 pub node-bytes : (s t : List ℕ) (base left n : ℕ) (r : Range) (at p first : ℕ) (b : Bool) (l o k o′ : List ℕ) (x x′ : St) (m2 m3 : Mem) → (n ≡ 0 → ⊥) → BytesNoted s t base left n at o x o′ x′ p
-    → b ≡ allBytes (memR t) t base (exprsAt s (exprAt s left) (skipNode s left exprSort) n at) → b ≡ true → first ≡ memR t .nextByte (mem l o′ k x′)
-    → m2 ≡ loadBytes (memR t) t base (exprsAt s (exprAt s left) (skipNode s left exprSort) n at) (mem l o′ k x′) → m3 ≡ memR t .emit m2 35 r first n 0
+    → b ≡ allBytes (memR t) t base (argsAt s left n at) → b ≡ true → first ≡ memR t .nextByte (mem l o′ k x′)
+    → m2 ≡ loadBytes (memR t) t base (argsAt s left n at) (mem l o′ k x′) → m3 ≡ memR t .emit m2 35 r first n 0
     → Loaded s t base left n r at (mem l o k x) m3 p
 node-bytes s t base left n r at p first b l o k o′ x x′ m2 m3 h u hb g hf e f =
-    let q : allBytes (memR t) t base (exprsAt s (exprAt s left) (skipNode s left exprSort) n at) ≡ true = inv hb ∙ g in
+    let q : allBytes (memR t) t base (argsAt s left n at) ≡ true = inv hb ∙ g in
     record {
       place = u .place;
       result = rw (node-some s t base n r (exprAt s left) (skipNode s left exprSort) at (mem l o k x) h, q, ← u .result l k, f, e, hf);
     }
 
 pub node-bad : (s t : List ℕ) (base left n : ℕ) (r : Range) (at p : ℕ) (b : Bool) (l o k o′ : List ℕ) (x x′ : St) → (n ≡ 0 → ⊥) → BytesNoted s t base left n at o x o′ x′ p
-    → b ≡ allBytes (memR t) t base (exprsAt s (exprAt s left) (skipNode s left exprSort) n at) → b ≡ false → Loaded s t base left n r at (mem l o k x) (mem l o′ k x′) p
+    → b ≡ allBytes (memR t) t base (argsAt s left n at) → b ≡ false → Loaded s t base left n r at (mem l o k x) (mem l o′ k x′) p
 node-bad s t base left n r at p b l o k o′ x x′ h u hb g =
-    let q : allBytes (memR t) t base (exprsAt s (exprAt s left) (skipNode s left exprSort) n at) ≡ false = inv hb ∙ g in
+    let q : allBytes (memR t) t base (argsAt s left n at) ≡ false = inv hb ∙ g in
     record {
       place = u .place;
       result = rw (node-some s t base n r (exprAt s left) (skipNode s left exprSort) at (mem l o k x) h, q) (u .result l k);
     }
 
-pub load-empty : (s t : List ℕ) (base left k : ℕ) (r : Range) (at n q : ℕ) (m : Mem) → CountAt s at n q → n ≡ 0 → Body s t base left Load k r at m m q
+pub load-empty : (s t : List ℕ) (base left k : ℕ) (r : Range) (at n q : ℕ) (m : Mem) → PayloadAt s at n q → n ≡ 0 → Body s t base left Load k r at m m q
 unfolding skipFields skipField skipTimes skipPair skipItem skipList skipRepeat stmtNode compileStmt compileLoad exprsAt
 load-empty s t base left k r at n q m c e =
-    let g : payloadAt s at ≡ 0 = inv (c .count) ∙ e in
+    let g : payloadAt s at ≡ 0 = inv (c .value) ∙ e in
     record { place = rw (g, c .place); result = λ child. rw g }
 
 load-first : (t : List ℕ) (base : ℕ) (r : Range) (e : Expr) (es : Exprs) (m : Mem) → compileLoad (memR t) t base r (more e es) m ≡ loadNode (memR t) t base r es (compileTyped (memR t) t base Real e m)
 unfolding compileLoad
 load-first t base r e es m = refl
 
-pub load-of : (s t : List ℕ) (base left k : ℕ) (r : Range) (at n q q1 p : ℕ) (m m1 m2 : Mem) → CountAt s at n q → (n ≡ 0 → ⊥) → CompiledTyped s t base left q Real m m1 q1
+pub load-of : (s t : List ℕ) (base left k : ℕ) (r : Range) (at n q q1 p : ℕ) (m m1 m2 : Mem) → PayloadAt s at n q → (n ≡ 0 → ⊥) → CompiledTyped s t base left q Real m m1 q1
     → Loaded s t base left (n - 1) r q1 m1 m2 p → Body s t base left Load k r at m m2 p
 unfolding skipFields skipField skipTimes skipPair skipItem skipList stmtNode compileStmt
 load-of s t base left k r at n q q1 p m m1 m2 c h x y =
     let d : 0 < n = omega (arith, h) in
     record {
-      place = rw (← c .place, ← c .count, repeat-step s (skipNode s left exprSort) n q d, ← x .place) (y .place);
-      result = λ child. rw (← c .place, ← c .count, exprs-step s (exprAt s left) (skipNode s left exprSort) n q d, load-first, ← x .place, ← x .result) (y .result);
+      place = rw (← c .place, ← c .value, repeat-step s (skipNode s left exprSort) n q d, ← x .place) (y .place);
+      result = λ child. rw (← c .place, ← c .value, exprs-step s (exprAt s left) (skipNode s left exprSort) n q d, load-first, ← x .place, ← x .result) (y .result);
     }

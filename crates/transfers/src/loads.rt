@@ -1,5 +1,5 @@
 // compile_load of compiler.rs.
-use expressions::expr::Went;
+use expressions::expr::Behind;
 use recorder::codegen::St;
 use recorder::word::Range;
 use rules::types::Type;
@@ -9,11 +9,10 @@ ghost use mathlib.Core.Path.{_≡_};
 ghost use mathlib.Core.List.{List};
 ghost use Prim.Native.Nat.{ℕ};
 ghost use Rattle.recorder.specs.Mem.{mem, memR};
-ghost use Rattle.sheet.specs.Skip.{skipNode};
-ghost use Rattle.sheet.specs.Tree.{exprAt, exprsAt};
+ghost use Rattle.sheet.specs.Tree.{exprAt, argsAt};
 ghost use Rattle.rules.specs.Stmt.{fresh, upTo255, digit, plus, byteUnit, byteUnits, byteOf, badByte, allBytes, loadByte, loadBytes};
 ghost use Rattle.expressions.specs.Body.{Body};
-ghost use Rattle.transfers.specs.Moved.{readOf, optByte, BytesNoted, Loaded};
+ghost use Rattle.transfers.specs.Parts.{readOf, optByte, BytesNoted, Loaded};
 
 // A byte that is being read is a number: below 256 its value so far, 256 nothing yet, 257 a plus, 258 no byte.
 fn up_to_255(n: u32) -> u32
@@ -84,7 +83,7 @@ fn byte_of(sheet: &[u32], text: &[u16], base: u32, at: usize, left: usize) -> u3
         return 256;
     }
     if recorder::word::payload_at(sheet, at) == 2 {
-        let r = expressions::expr::expr_range(sheet, at);
+        let r = expressions::expr::node_range(sheet, at);
         let a = rules::name::text_place(base, r.start as u32);
         let n = rules::name::units(r);
         byte_units(text, a as usize, n)
@@ -114,7 +113,7 @@ fn bad_bytes(
     at: usize,
     left: usize,
     n: u32,
-) -> Went
+) -> Behind
     ensures { λ x. ⌜ BytesNoted (now (sheet .entry)) (now (text .entry)) base left n at (now (notes .entry)) st (now (notes .exit)) (x .st) (x .at) ⌝ }
 {
     let mut s = st;
@@ -122,17 +121,17 @@ fn bad_bytes(
     let mut more = n;
     while 0 < more {
         let v = byte_of(sheet, text, base, p, left);
-        let r = expressions::expr::expr_range(sheet, p);
+        let r = expressions::expr::node_range(sheet, p);
         s = bad_byte(notes, s, v, r);
         p = walk::stmt::skip_expr(sheet, p, left);
         more -= 1;
     }
-    Went { st: s, at: p }
+    Behind { st: s, at: p }
 }
 
 // Whether each of so many arguments is a byte.
 fn all_bytes(sheet: &[u32], text: &[u16], base: u32, at: usize, left: usize, n: u32) -> bool
-    ensures { λ x. ⌜ x ≡ allBytes (memR (now (text .entry))) (now (text .entry)) base (exprsAt (now (sheet .entry)) (exprAt (now (sheet .entry)) left) (skipNode (now (sheet .entry)) left Sort.Expr) n at) ⌝ }
+    ensures { λ x. ⌜ x ≡ allBytes (memR (now (text .entry))) (now (text .entry)) base (argsAt (now (sheet .entry)) left n at) ⌝ }
 {
     let mut p = at;
     let mut more = n;
@@ -169,14 +168,14 @@ fn load_bytes(
     left: usize,
     n: u32,
 ) -> St
-    ensures { λ x. ⌜ ((l o : List ℕ) → mem l o (now (book .exit)) x ≡ loadBytes (memR (now (text .entry))) (now (text .entry)) base (exprsAt (now (sheet .entry)) (exprAt (now (sheet .entry)) left) (skipNode (now (sheet .entry)) left Sort.Expr) n at) (mem l o (now (book .entry)) st)) ⌝ }
+    ensures { λ x. ⌜ ((l o : List ℕ) → mem l o (now (book .exit)) x ≡ loadBytes (memR (now (text .entry))) (now (text .entry)) base (argsAt (now (sheet .entry)) left n at) (mem l o (now (book .entry)) st)) ⌝ }
 {
     let mut s = st;
     let mut p = at;
     let mut more = n;
     while 0 < more {
         let v = byte_of(sheet, text, base, p, left);
-        let r = expressions::expr::expr_range(sheet, p);
+        let r = expressions::expr::node_range(sheet, p);
         s = load_one(book, s, base, v, r);
         p = walk::stmt::skip_expr(sheet, p, left);
         more -= 1;
@@ -197,12 +196,12 @@ fn load_node(
     left: usize,
     n: u32,
     r: Range,
-) -> Went
+) -> Behind
     ensures { λ x. ⌜ Loaded (now (sheet .entry)) (now (text .entry)) base left n r at (mem (now (list .entry)) (now (notes .entry)) (now (book .entry)) st) (mem (now (list .exit)) (now (notes .exit)) (now (book .exit)) (x .st)) (x .at) ⌝ }
 {
     if n == 0 {
         let s = recorder::codegen::note(notes, st, 6, r, 1);
-        return Went { st: s, at };
+        return Behind { st: s, at };
     }
     let x = bad_bytes(sheet, text, notes, st, base, at, left, n);
     let xs = x.st;
@@ -210,9 +209,9 @@ fn load_node(
         let first = recorder::codegen::next_byte(xs);
         let ls = load_bytes(sheet, text, book, xs, base, at, left, n);
         let s = recorder::codegen::emit_load_bytes(list, ls, r, first, n);
-        Went { st: s, at: x.at }
+        Behind { st: s, at: x.at }
     } else {
-        Went { st: xs, at: x.at }
+        Behind { st: xs, at: x.at }
     }
 }
 
@@ -228,12 +227,12 @@ pub fn compile_load(
     left: usize,
     k: u32,
     r: Range,
-) -> Went
+) -> Behind
     ensures { λ x. ⌜ Body (now (sheet .entry)) (now (text .entry)) base left Shape.Load k r at (mem (now (list .entry)) (now (notes .entry)) (now (book .entry)) st) (mem (now (list .exit)) (now (notes .exit)) (now (book .exit)) (x .st)) (x .at) ⌝ }
 {
-    let c = expressions::expr::count_at(sheet, at);
-    if c.count == 0 {
-        return Went { st, at: c.at };
+    let c = expressions::expr::read_payload(sheet, at);
+    if c.value == 0 {
+        return Behind { st, at: c.at };
     }
     let x = expressions::expr::compile_typed(
         sheet,
@@ -258,7 +257,7 @@ pub fn compile_load(
         base,
         x.at,
         left,
-        c.count - 1,
+        c.value - 1,
         r,
     )
 }

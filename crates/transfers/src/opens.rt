@@ -1,5 +1,5 @@
 // compile_open of compiler.rs.
-use expressions::expr::Went;
+use expressions::expr::Behind;
 use recorder::codegen::St;
 use recorder::word::Range;
 use rules::types::Type;
@@ -10,7 +10,7 @@ ghost use Prim.Native.Nat.{ℕ};
 ghost use Rattle.recorder.specs.Mem.{mem, memR};
 ghost use Rattle.rules.specs.Stmt.{lenNotes};
 ghost use Rattle.expressions.specs.Body.{Body};
-ghost use Rattle.transfers.specs.Moved.{Opened, openCall};
+ghost use Rattle.transfers.specs.Parts.{Opened, openCall};
 
 // LEN with a mode that is neither Error nor Random.
 fn len_note(notes: &mut [u32], st: St, mode: u32, r: Range) -> St
@@ -47,13 +47,13 @@ fn open_node(
     left: usize,
     mode: u32,
     r: Range,
-) -> Went
+) -> Behind
     ensures { λ x. ⌜ Opened (now (sheet .entry)) (now (text .entry)) base left mode r at (mem (now (list .entry)) (now (notes .entry)) (now (book .entry)) st) (mem (now (list .exit)) (now (notes .exit)) (now (book .exit)) (x .st)) (x .at) ⌝ }
 {
     let q = recorder::word::behind(sheet, at);
-    if recorder::word::kind_at(sheet, at) == 2 {
+    if sheet::leaf::is_absent(sheet, at) {
         let s = recorder::codegen::emit_open(list, st, r, mode, 0);
-        return Went { st: s, at: q };
+        return Behind { st: s, at: q };
     }
     let lr = recorder::word::range_at(sheet, at);
     let ns = len_note(notes, st, mode, lr);
@@ -71,7 +71,7 @@ fn open_node(
     );
     let xs = x.st;
     let s = open_call(list, xs, mode, r);
-    Went { st: s, at: x.at }
+    Behind { st: s, at: x.at }
 }
 
 pub fn compile_open(
@@ -86,7 +86,7 @@ pub fn compile_open(
     left: usize,
     k: u32,
     r: Range,
-) -> Went
+) -> Behind
     ensures { λ x. ⌜ Body (now (sheet .entry)) (now (text .entry)) base left Shape.Open k r at (mem (now (list .entry)) (now (notes .entry)) (now (book .entry)) st) (mem (now (list .exit)) (now (notes .exit)) (now (book .exit)) (x .st)) (x .at) ⌝ }
 {
     let f = expressions::expr::compile_typed(
@@ -102,7 +102,7 @@ pub fn compile_open(
         Type::String,
     );
     let fs = f.st;
-    let m = expressions::expr::count_at(sheet, f.at);
+    let m = expressions::expr::read_payload(sheet, f.at);
     let e = expressions::expr::compile_typed(
         sheet,
         text,
@@ -126,7 +126,7 @@ pub fn compile_open(
         base,
         e.at,
         left,
-        m.count,
+        m.value,
         r,
     )
 }

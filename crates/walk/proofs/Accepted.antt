@@ -18,9 +18,8 @@ use Rattle.sheet.specs.declared.form.Offence.the-variants.{BadWord, BadRange, F
 use Rattle.sheet.specs.declared.form.Walk.{Walk}
 use Rattle.sheet.specs.declared.form.Walk.the-variants.{Behind, Stops}
 use Rattle.sheet.specs.declared.form.Line.{Line}
-use Rattle.sheet.specs.Table.{nodeKind, mayStand, exprRange, ownRange, fieldsOf, isFseek}
-use Rattle.sheet.specs.Parts.{highFits, lowFits, lacksUnit}
-use Rattle.sheet.specs.Form.{then, isAbsent, hasUnit, isNameRange, takeWord, absentForm, nonEmptyForm, highForm, lowForm, numberForm, headForm, inLine, rangeForm, textForm, datumForm, nameForm, sourceRest, elementRest, itemForm, pairForm, repeatForm, listForm, timesForm, fieldForm, fieldsForm, bodyForm, nodeForm}
+use Rattle.sheet.specs.Table.{nodeKind, mayStand, exprRangeItem, ownRange, fieldsOf, isFseek}
+use Rattle.sheet.specs.Form.{then, isAbsent, hasUnit, isNameRange, takeWord, absentForm, nonEmptyForm, highForm, lowForm, numberForm, headForm, inLine, rangeForm, textForm, datumForm, nameForm, sourceRest, elementRest, itemForm, pairForm, repeatForm, listForm, timesForm, fieldForm, fieldsForm, bodyForm, nodeForm, highFits, lowFits, lacksUnit}
 use Rattle.sheet.specs.Skip.{skipSource, skipElement, skipItem, skipPair, skipRepeat, skipList, skipTimes, skipField, skipFields, skipNode}
 
 -- where the walk is accepted, it ends at x
@@ -124,7 +123,7 @@ module _ (s : List ℕ) where
       unfolding pairForm skipPair
       pair-lands a b p = lands-then _ _ (skipItem s skip a p) _ (item-lands a p) (item-lands b (skipItem s skip a p))
 
-      expr-own-lands : (k p : ℕ) → Lands (itemForm s t line child (exprRange k) p) (next s p)
+      expr-own-lands : (k p : ℕ) → Lands (itemForm s t line child (exprRangeItem k) p) (next s p)
       unfolding itemForm
       expr-own-lands zero p = name-lands p
       expr-own-lands (suc zero) p = text-lands line p

@@ -22,9 +22,8 @@ use Rattle.sheet.specs.declared.form.Walk.{Walk}
 use Rattle.sheet.specs.declared.form.Walk.the-variants.{Behind, Stops}
 use Rattle.sheet.specs.declared.form.Line.{Line}
 use Rattle.sheet.specs.Table.{exprTable, stmtTable, exprFields, stmtFields, nodeKind, mayStand, ownRange, fieldsOf, isFseek}
-use Rattle.sheet.specs.Parts.{highFits, lowFits, lacksUnit}
 use Rattle.sheet.specs.Check.{offencePlace}
-use Rattle.sheet.specs.Form.{then, isAbsent, hasUnit, isNameRange, takeWord, absentForm, nonEmptyForm, highForm, lowForm, numberForm, headForm, fseekForm, inLine, rangeForm, textForm, datumForm, labelForm, nameForm, sourceRest, elementRest, itemForm, pairForm, repeatForm, listForm, timesForm, fieldForm, fieldsForm, bodyForm, nodeForm, lineOf, lineHead, lineForm, endForm, linesForm, sheetForm}
+use Rattle.sheet.specs.Form.{then, isAbsent, hasUnit, isNameRange, takeWord, absentForm, nonEmptyForm, highForm, lowForm, numberForm, headForm, fseekForm, inLine, rangeForm, textForm, datumForm, labelForm, nameForm, sourceRest, elementRest, itemForm, pairForm, repeatForm, listForm, timesForm, fieldForm, fieldsForm, bodyForm, nodeForm, lineOf, lineHead, lineForm, endForm, linesForm, sheetForm, highFits, lowFits, lacksUnit}
 use Rattle.walk.proofs.Steps.{Ends, endOf, to-next, high-ends, low-ends, range-ends, word-ends, item-ends, pair-ends, repeat-ends, list-ends, fields-ends, body-ends, node-ends, label-ends}
 use Rattle.walk.proofs.Accepted.{Lands, lands-at, lands-never, lands-pick, lands-then, word-lands, non-empty-lands, head-lands, range-lands}
 use Rattle.walk.proofs.Within.{line-ends, lines-ends}

@@ -11,7 +11,7 @@ use Rattle.sheet.specs.declared.form.Sort.the-variants.{Expr, Place, InputPlace
 use Rattle.sheet.specs.declared.form.Walk.{Walk}
 use Rattle.sheet.specs.declared.form.Walk.the-variants.{Behind}
 use Rattle.sheet.specs.declared.form.Line.{Line}
-use Rattle.sheet.specs.Table.{exprRange, ownRange, isFseek}
+use Rattle.sheet.specs.Table.{exprRangeItem, ownRange, isFseek}
 use Rattle.sheet.specs.Parts.{fieldStarts, fieldsFrom, caseOf}
 use Rattle.sheet.specs.Form.{then, headForm, takeWord, labelForm, itemForm, pairForm, listForm, fieldsForm, bodyForm, nodeForm, lineHead, lineForm, linesForm, sheetForm}
 use Rattle.sheet.specs.Reach.{Reaches}
@@ -44,7 +44,7 @@ reach-later s p q x h a b = later s p q x x h refl (a b)
 
 module _ (s t : List ℕ) (line : Line) where
   -- a node's own range holds no node
-  expr-own : (child other : Sort → ℕ → Walk) (k p : ℕ) → itemForm s t line child (exprRange k) p ≡ itemForm s t line other (exprRange k) p
+  expr-own : (child other : Sort → ℕ → Walk) (k p : ℕ) → itemForm s t line child (exprRangeItem k) p ≡ itemForm s t line other (exprRangeItem k) p
   unfolding itemForm
   expr-own child other zero p = refl
   expr-own child other (suc zero) p = refl

@@ -21,8 +21,7 @@ use Rattle.sheet.specs.declared.form.Walk.the-variants.{Behind, Stops}
 use Rattle.sheet.specs.declared.form.Line.{Line}
 use Rattle.sheet.specs.Table.{nodeKind, mayStand, ownRange, fieldsOf, isFseek}
 use Rattle.sheet.specs.Check.{offencePlace}
-use Rattle.sheet.specs.Parts.{highFits, lowFits, lacksUnit}
-use Rattle.sheet.specs.Form.{then, isAbsent, hasUnit, isNameRange, takeWord, absentForm, nonEmptyForm, highForm, lowForm, numberForm, headForm, inLine, rangeForm, textForm, datumForm, labelForm, nameForm, sourceRest, elementRest, itemForm, pairForm, repeatForm, listForm, timesForm, fieldForm, fieldsForm, bodyForm, nodeForm}
+use Rattle.sheet.specs.Form.{then, isAbsent, hasUnit, isNameRange, takeWord, absentForm, nonEmptyForm, highForm, lowForm, numberForm, headForm, inLine, rangeForm, textForm, datumForm, labelForm, nameForm, sourceRest, elementRest, itemForm, pairForm, repeatForm, listForm, timesForm, fieldForm, fieldsForm, bodyForm, nodeForm, highFits, lowFits, lacksUnit}
 
 -- where a walk ends or offends
 abbrev pub endOf : Walk → ℕ

@@ -13,7 +13,7 @@ pub mod stmt;
 fn or_surrogate(found: bool, u: u16) -> bool
     ensures { λ r. ⌜ r ≡ either found (between 55296 u 57343) ⌝ }
 {
-    if sheet::expr::within(55296, u, 57343) {
+    if sheet::leaf::within(55296, u, 57343) {
         true
     } else {
         found

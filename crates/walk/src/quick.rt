@@ -2,13 +2,13 @@
 // tells the first offence, so both are needed: returning one number, where the other returns a `Walk` through memory, halves
 // the time of the check. A sheet that is refused is walked by both. A line is passed as its two numbers, and a slice to a
 // function of some length as `&*`: else each call writes it in two parts and reads it as one, for which the processor waits.
-use sheet::expr::take_word;
 use sheet::form::Field;
 use sheet::form::Item;
 use sheet::form::Line;
 use sheet::form::Sort;
 use sheet::form::Times;
 use sheet::form::Walk;
+use sheet::leaf::take_word;
 ghost use Prim.Native.Nat.{_-_};
 ghost use Rattle.sheet.specs.Reach.{Reaches, lineFrom};
 ghost use Rattle.sheet.specs.Table.{ownRange};
@@ -45,7 +45,7 @@ fn source_ends(
         return p;
     }
     if n == 1 {
-        return ends(sheet::expr::text_form(&*sheet, Line { base, len }, p));
+        return ends(sheet::leaf::text_form(&*sheet, Line { base, len }, p));
     }
     node_ends(&*sheet, &*text, base, len, left, Sort::Expr, p)
 }
@@ -68,7 +68,7 @@ fn element_ends(
     if recorder::word::payload_at(sheet, at) == 0 {
         return node_ends(&*sheet, &*text, base, len, left, Sort::Expr, p);
     }
-    ends(sheet::expr::range_form(sheet, Line { base, len }, p))
+    ends(sheet::leaf::range_form(sheet, Line { base, len }, p))
 }
 
 fn item_ends(
@@ -85,21 +85,21 @@ fn item_ends(
     match item {
         Item::Nothing => at,
         Item::Word(k, n) => ends(take_word(sheet, k, n, at)),
-        Item::Range => ends(sheet::expr::range_form(sheet, Line { base, len }, at)),
-        Item::Name => ends(sheet::expr::name_form(&*sheet, &*text, Line { base, len }, at)),
-        Item::OptionalName => ends(sheet::expr::optional_name_form(
+        Item::Range => ends(sheet::leaf::range_form(sheet, Line { base, len }, at)),
+        Item::Name => ends(sheet::leaf::name_form(&*sheet, &*text, Line { base, len }, at)),
+        Item::OptionalName => ends(sheet::leaf::optional_name_form(
             &*sheet,
             &*text,
             Line { base, len },
             at,
         )),
-        Item::Text => ends(sheet::expr::text_form(&*sheet, Line { base, len }, at)),
+        Item::Text => ends(sheet::leaf::text_form(&*sheet, Line { base, len }, at)),
         Item::Node(c) => node_ends(&*sheet, &*text, base, len, left, c, at),
-        Item::Number => ends(sheet::expr::number_form(sheet, at)),
-        Item::OptionalLabel => ends(sheet::expr::optional_label_form(sheet, at)),
+        Item::Number => ends(sheet::leaf::number_form(sheet, at)),
+        Item::OptionalLabel => ends(sheet::leaf::optional_label_form(sheet, at)),
         Item::Source => source_ends(&*sheet, &*text, base, len, left, at),
         Item::Element => element_ends(&*sheet, &*text, base, len, left, at),
-        Item::Datum => ends(sheet::expr::datum_form(sheet, Line { base, len }, at)),
+        Item::Datum => ends(sheet::leaf::datum_form(sheet, Line { base, len }, at)),
     }
 }
 
@@ -174,7 +174,7 @@ fn field_ends(
     match times {
         Times::Once => pair_ends(&*sheet, &*text, base, len, left, a, b, at),
         Times::Optional => {
-            if sheet::expr::is_absent(sheet, at) {
+            if sheet::leaf::is_absent(sheet, at) {
                 ends(take_word(sheet, 2, 1, at))
             } else {
                 pair_ends(&*sheet, &*text, base, len, left, a, b, at)
@@ -182,14 +182,14 @@ fn field_ends(
         }
         Times::List => list_ends(&*sheet, &*text, base, len, left, a, b, at),
         Times::NonEmpty => {
-            let p = ends(sheet::expr::non_empty_form(sheet, at));
+            let p = ends(sheet::leaf::non_empty_form(sheet, at));
             if p == 0 {
                 return 0;
             }
             list_ends(&*sheet, &*text, base, len, left, a, b, at)
         }
         Times::OptionalList => {
-            if sheet::expr::is_absent(sheet, at) {
+            if sheet::leaf::is_absent(sheet, at) {
                 ends(take_word(sheet, 2, 1, at))
             } else {
                 list_ends(&*sheet, &*text, base, len, left, a, b, at)
@@ -241,7 +241,7 @@ fn own_ends(
         Sort::Expr => expr_own_ends(&*sheet, &*text, base, len, k, at),
         Sort::Place => expr_own_ends(&*sheet, &*text, base, len, k, at),
         Sort::InputPlace => expr_own_ends(&*sheet, &*text, base, len, k, at),
-        Sort::Stmt => ends(sheet::expr::range_form(sheet, Line { base, len }, at)),
+        Sort::Stmt => ends(sheet::leaf::range_form(sheet, Line { base, len }, at)),
     }
 }
 
@@ -249,12 +249,12 @@ fn expr_own_ends(sheet: &[u32], text: &[u16], base: usize, len: usize, k: u32, a
     ensures { λ r. ⌜ Reaches r (itemForm (now (sheet .entry)) (now (text .entry)) (lineFrom base len) (nodeForm (now (sheet .entry)) (now (text .entry)) (lineFrom base len) 0) (ownRange Sort.Expr k) at) ⌝ }
 {
     if k == 0 {
-        return ends(sheet::expr::name_form(&*sheet, &*text, Line { base, len }, at));
+        return ends(sheet::leaf::name_form(&*sheet, &*text, Line { base, len }, at));
     }
     if k == 1 {
-        return ends(sheet::expr::text_form(&*sheet, Line { base, len }, at));
+        return ends(sheet::leaf::text_form(&*sheet, Line { base, len }, at));
     }
-    ends(sheet::expr::range_form(sheet, Line { base, len }, at))
+    ends(sheet::leaf::range_form(sheet, Line { base, len }, at))
 }
 
 // What stands behind a node's head: its own range and its fields.
@@ -292,7 +292,7 @@ fn node_ends(
 ) -> usize
     ensures { λ r. ⌜ Reaches r (nodeForm (now (sheet .entry)) (now (text .entry)) (lineFrom base len) left c at) ⌝ }
 {
-    let p = ends(sheet::expr::head_form(sheet, c, at));
+    let p = ends(sheet::leaf::head_form(sheet, c, at));
     if p == 0 {
         return 0;
     }
@@ -331,7 +331,7 @@ fn line_ends(sheet: &[u32], text: &[u16], base: usize, at: usize) -> usize
         return 0;
     }
     let len = recorder::word::payload_at(sheet, at) as usize;
-    let q = ends(sheet::expr::label_form(sheet, Line { base, len }, p));
+    let q = ends(sheet::leaf::label_form(sheet, Line { base, len }, p));
     if q == 0 {
         return 0;
     }

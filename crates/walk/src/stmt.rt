@@ -1,6 +1,5 @@
 // The form of statements, expressions and lines, and the places behind them: the table's fields, walked over the sheet.
 // Each child is read by a call, with the remaining words as the number that falls.
-use sheet::expr::take_word;
 use sheet::form::Field;
 use sheet::form::Item;
 use sheet::form::Line;
@@ -8,6 +7,7 @@ use sheet::form::Offence;
 use sheet::form::Sort;
 use sheet::form::Times;
 use sheet::form::Walk;
+use sheet::leaf::take_word;
 ghost use mathlib.Core.Path.{_≡_};
 ghost use Prim.Native.Nat.{_+_, _-_};
 ghost use lib.Dec.{leb};
@@ -28,7 +28,7 @@ fn source_form(sheet: &[u32], text: &[u16], line: Line, left: usize, at: usize) 
         return Walk::Behind(p);
     }
     if n == 1 {
-        return sheet::expr::text_form(sheet, line, p);
+        return sheet::leaf::text_form(sheet, line, p);
     }
     node_form(sheet, text, line, left, Sort::Expr, p)
 }
@@ -44,7 +44,7 @@ fn element_form(sheet: &[u32], text: &[u16], line: Line, left: usize, at: usize)
     if recorder::word::payload_at(sheet, at) == 0 {
         return node_form(sheet, text, line, left, Sort::Expr, p);
     }
-    sheet::expr::range_form(sheet, line, p)
+    sheet::leaf::range_form(sheet, line, p)
 }
 
 fn item_form(sheet: &[u32], text: &[u16], line: Line, left: usize, item: Item, at: usize) -> Walk
@@ -53,16 +53,16 @@ fn item_form(sheet: &[u32], text: &[u16], line: Line, left: usize, item: Item, a
     match item {
         Item::Nothing => Walk::Behind(at),
         Item::Word(k, n) => take_word(sheet, k, n, at),
-        Item::Range => sheet::expr::range_form(sheet, line, at),
-        Item::Name => sheet::expr::name_form(sheet, text, line, at),
-        Item::OptionalName => sheet::expr::optional_name_form(sheet, text, line, at),
-        Item::Text => sheet::expr::text_form(sheet, line, at),
+        Item::Range => sheet::leaf::range_form(sheet, line, at),
+        Item::Name => sheet::leaf::name_form(sheet, text, line, at),
+        Item::OptionalName => sheet::leaf::optional_name_form(sheet, text, line, at),
+        Item::Text => sheet::leaf::text_form(sheet, line, at),
         Item::Node(c) => node_form(sheet, text, line, left, c, at),
-        Item::Number => sheet::expr::number_form(sheet, at),
-        Item::OptionalLabel => sheet::expr::optional_label_form(sheet, at),
+        Item::Number => sheet::leaf::number_form(sheet, at),
+        Item::OptionalLabel => sheet::leaf::optional_label_form(sheet, at),
         Item::Source => source_form(sheet, text, line, left, at),
         Item::Element => element_form(sheet, text, line, left, at),
-        Item::Datum => sheet::expr::datum_form(sheet, line, at),
+        Item::Datum => sheet::leaf::datum_form(sheet, line, at),
     }
 }
 
@@ -124,7 +124,7 @@ fn field_form(sheet: &[u32], text: &[u16], line: Line, left: usize, f: Field, at
     match times {
         Times::Once => pair_form(sheet, text, line, left, a, b, at),
         Times::Optional => {
-            if sheet::expr::is_absent(sheet, at) {
+            if sheet::leaf::is_absent(sheet, at) {
                 take_word(sheet, 2, 1, at)
             } else {
                 pair_form(sheet, text, line, left, a, b, at)
@@ -132,14 +132,14 @@ fn field_form(sheet: &[u32], text: &[u16], line: Line, left: usize, f: Field, at
         }
         Times::List => list_form(sheet, text, line, left, a, b, at),
         Times::NonEmpty => {
-            let w = sheet::expr::non_empty_form(sheet, at);
+            let w = sheet::leaf::non_empty_form(sheet, at);
             let Walk::Behind(_) = w else {
                 return w;
             };
             list_form(sheet, text, line, left, a, b, at)
         }
         Times::OptionalList => {
-            if sheet::expr::is_absent(sheet, at) {
+            if sheet::leaf::is_absent(sheet, at) {
                 take_word(sheet, 2, 1, at)
             } else {
                 list_form(sheet, text, line, left, a, b, at)
@@ -201,7 +201,7 @@ fn body_form(
 pub fn node_form(sheet: &[u32], text: &[u16], line: Line, left: usize, c: Sort, at: usize) -> Walk
     ensures { λ r. ⌜ r ≡ nodeForm (now (sheet .entry)) (now (text .entry)) line left c at ⌝ }
 {
-    let w = sheet::expr::head_form(sheet, c, at);
+    let w = sheet::leaf::head_form(sheet, c, at);
     let Walk::Behind(p) = w else {
         return w;
     };
@@ -262,7 +262,7 @@ fn line_form(sheet: &[u32], text: &[u16], base: usize, at: usize) -> Walk
     };
     let len = recorder::word::payload_at(sheet, at) as usize;
     let line = Line { base, len };
-    let v = sheet::expr::label_form(sheet, line, p);
+    let v = sheet::leaf::label_form(sheet, line, p);
     let Walk::Behind(q) = v else {
         return v;
     };
@@ -312,7 +312,7 @@ pub fn sheet_form(sheet: &[u32], text: &[u16]) -> Walk
     lines_form(sheet, text, recorder::word::payload_at(sheet, 0), p)
 }
 
-fn skip_source(sheet: &[u32], left: usize, at: usize) -> usize
+pub fn skip_source(sheet: &[u32], left: usize, at: usize) -> usize
     ensures { λ r. ⌜ r ≡ skipItem (now (sheet .entry)) (skipNode (now (sheet .entry)) left) Item.Source at ⌝ }
 {
     let n = recorder::word::payload_at(sheet, at);
@@ -391,7 +391,7 @@ fn skip_field(sheet: &[u32], left: usize, f: Field, at: usize) -> usize
     match times {
         Times::Once => skip_pair(sheet, left, a, b, at),
         Times::Optional => {
-            if sheet::expr::is_absent(sheet, at) {
+            if sheet::leaf::is_absent(sheet, at) {
                 recorder::word::behind(sheet, at)
             } else {
                 skip_pair(sheet, left, a, b, at)
@@ -400,7 +400,7 @@ fn skip_field(sheet: &[u32], left: usize, f: Field, at: usize) -> usize
         Times::List => skip_list(sheet, left, a, b, at),
         Times::NonEmpty => skip_list(sheet, left, a, b, at),
         Times::OptionalList => {
-            if sheet::expr::is_absent(sheet, at) {
+            if sheet::leaf::is_absent(sheet, at) {
                 recorder::word::behind(sheet, at)
             } else {
                 skip_list(sheet, left, a, b, at)

@@ -4,7 +4,7 @@ use Rattle.walk.proofs.or_surrogate.Statement.{statement}
 use Rattle.walk.proofs.or_surrogate.Tie as tie
 use Rattle.walk.proofs.or_surrogate.Reads as reads
 use Rattle.walk.proofs.or_surrogate.Lts as lts
-use Rattle.sheet.proofs.expr.within.Reads as within-reads
+use Rattle.sheet.proofs.leaf.within.Reads as within-reads
 
 -- src/lib.rt:16:8
 within-requires : tie.Need-within-requires

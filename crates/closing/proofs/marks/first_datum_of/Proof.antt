@@ -8,7 +8,7 @@ use Rattle.closing.proofs.marks.first_datum_of.Statement.{statement}
 use Rattle.closing.proofs.marks.first_datum_of.Tie as tie
 use Rattle.closing.proofs.marks.first_datum_of.Reads as reads
 use Rattle.closing.proofs.marks.first_datum_of.Lts as lts
-use Rattle.closing.proofs.marks.datum_at.Reads as datum-at-reads
+use Rattle.closing.proofs.marks.mark_datum.Reads as mark-datum-reads
 use Rattle.recorder.proofs.codegen.least.Reads as least-reads
 
 abbrev Inv-loop : tie.InvT-loop
@@ -30,8 +30,8 @@ sub-left : tie.Need-sub-left Inv-loop μ-loop
 sub-left c = omega arith
 
 -- src/marks.rt:116:13
-datum-at-requires : tie.Need-datum-at-requires Inv-loop μ-loop
-datum-at-requires c κs = search needs
+mark-datum-requires : tie.Need-mark-datum-requires Inv-loop μ-loop
+mark-datum-requires c κs = search needs
 
 -- src/marks.rt:118:43
 sub-t10 : tie.Need-sub-t10 Inv-loop μ-loop
@@ -39,7 +39,7 @@ sub-t10 c = omega arith
 
 -- src/marks.rt:118:13
 returns : tie.Need-returns Inv-loop μ-loop
-returns c = datum-stop _ _ _ _ _ _ _ (c .before .before .before .before .least .ensures) (c .before .before .loop-test .taken) (c .before .before .before .loop .inv .0) (c .before .datum-at .ensures) (c .if1 .taken)
+returns c = datum-stop _ _ _ _ _ _ _ (c .before .before .before .before .least .ensures) (c .before .before .loop-test .taken) (c .before .before .before .loop .inv .0) (c .before .mark-datum .ensures) (c .if1 .taken)
 
 -- src/marks.rt:120:9
 add-k : tie.Need-add-k Inv-loop μ-loop
@@ -51,7 +51,7 @@ loop-less c = omega arith
 
 -- src/marks.rt:114:5
 loop-again : tie.Need-loop-again Inv-loop μ-loop
-loop-again c = (datum-step _ _ _ _ _ _ (c .before .before .loop-test .taken) (c .before .before .before .loop .inv .0) (c .before .datum-at .ensures) (c .if1 .left), omega arith)
+loop-again c = (datum-step _ _ _ _ _ _ (c .before .before .loop-test .taken) (c .before .before .before .loop .inv .0) (c .before .mark-datum .ensures) (c .if1 .left), omega arith)
 
 -- src/marks.rt:109:1
 returns-2 : tie.Need-returns-2 Inv-loop μ-loop
@@ -66,7 +66,7 @@ first-datum-of-spec =
     least-requires
     loop-holds
     sub-left
-    datum-at-requires
+    mark-datum-requires
     sub-t10
     returns
     add-k

@@ -2,7 +2,7 @@ use borrow.Author.Needs.{needs}
 use native.Mathlib.Omega.{arith}
 use mathlib.Core.Path.{_≡_, refl}
 use Prim.Native.Nat.{_-_, _≤_}
-use Rattle.closing.specs.MarkWords.{seek}
+use Rattle.closing.specs.MarkWords.{seekLabel}
 use Rattle.closing.proofs.MarkLaws.{seek-up, seek-down, seek-end}
 use Rattle.closing.proofs.marks.seek_label.Statement.{statement}
 use Rattle.closing.proofs.marks.seek_label.Tie as tie
@@ -12,7 +12,7 @@ use Rattle.recorder.proofs.codegen.least.Reads as least-reads
 use Rattle.recorder.proofs.word.word_at.Reads as word-at-reads
 
 abbrev Inv-loop : tie.InvT-loop
-Inv-loop work n label lo₀ hi₀ lo hi = (seek work label lo hi (hi - lo) ≡ seek work label lo₀ hi₀ (hi₀ - lo₀)) × (lo ≤ hi) × (hi ≤ hi₀)
+Inv-loop work n label lo₀ hi₀ lo hi = (seekLabel work label lo hi (hi - lo) ≡ seekLabel work label lo₀ hi₀ (hi₀ - lo₀)) × (lo ≤ hi) × (hi ≤ hi₀)
 
 abbrev μ-loop : tie.MeasureT-loop
 μ-loop work n label lo₀ hi₀ lo hi = hi - lo

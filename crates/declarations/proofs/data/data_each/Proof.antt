@@ -9,7 +9,8 @@ use Rattle.sheet.specs.Skip.{skipRepeat}
 use Rattle.sheet.specs.Tree.{itemsAt, datumAt}
 use Rattle.rules.specs.Stmt.{compileData}
 use Rattle.expressions.specs.Lists.{twoOn}
-use Rattle.declarations.proofs.Laws.{step-data, step-two, data-done}
+use Rattle.expressions.proofs.Lists.{step-two}
+use Rattle.declarations.proofs.Laws.{step-data, data-done}
 use Rattle.declarations.proofs.data.data_each.Statement.{statement}
 use Rattle.declarations.proofs.data.data_each.Tie as tie
 use Rattle.declarations.proofs.data.data_each.Reads as reads

@@ -6,7 +6,7 @@ use Rattle.declarations.proofs.define.compile_def.Tie as tie
 use Rattle.declarations.proofs.define.compile_def.Reads as reads
 use Rattle.declarations.proofs.define.compile_def.Lts as lts
 use Rattle.declarations.proofs.define.def_node.Reads as def-node-reads
-use Rattle.nodes.proofs.node.func_name.Reads as func-name-reads
+use Rattle.nodes.proofs.node.opt_real_sym.Reads as opt-real-sym-reads
 use Rattle.nodes.proofs.node.opt_range_at.Reads as opt-range-at-reads
 use Rattle.recorder.proofs.word.behind.Reads as behind-reads
 
@@ -23,12 +23,12 @@ opt-range-at-requires-2 : tie.Need-opt-range-at-requires-2
 opt-range-at-requires-2 c κs = search needs
 
 -- src/define.rt:134:9
-func-name-requires : tie.Need-func-name-requires
-func-name-requires c κs = search needs
+opt-real-sym-requires : tie.Need-opt-real-sym-requires
+opt-real-sym-requires c κs = search needs
 
 -- src/define.rt:136:9
-func-name-requires-2 : tie.Need-func-name-requires-2
-func-name-requires-2 c κs = search needs
+opt-real-sym-requires-2 : tie.Need-opt-real-sym-requires-2
+opt-real-sym-requires-2 c κs = search needs
 
 -- src/define.rt:138:9
 behind-requires-2 : tie.Need-behind-requires-2
@@ -44,15 +44,15 @@ same-length c = search needs
 
 -- src/define.rt:117:1
 same-length-2 : tie.Need-same-length-2
-same-length-2 c = (c .before .before .before .before .before .before .def-node .kept .1 .1 .1 .0) ∙ (c .before .before .before .before .before .before .before .before .before .before .before .before .before .before .before .before .func-name2 .kept .1 .0) ∙ (c .before .before .before .before .before .before .before .before .before .before .before .before .before .before .before .before .before .before .before .before .before .before .before .before .func-name .kept .1 .0)
+same-length-2 c = (c .before .before .before .before .before .before .def-node .kept .1 .1 .1 .0) ∙ (c .before .before .before .before .before .before .before .before .before .before .before .before .before .before .before .before .opt-real-sym2 .kept .1 .0) ∙ (c .before .before .before .before .before .before .before .before .before .before .before .before .before .before .before .before .before .before .before .before .before .before .before .before .opt-real-sym .kept .1 .0)
 
 -- src/define.rt:117:1
 same-length-3 : tie.Need-same-length-3
-same-length-3 c = (c .before .before .before .before .before .before .def-node .kept .1 .1 .1 .1 .0) ∙ (c .before .before .before .before .before .before .before .before .before .before .before .before .before .before .before .before .func-name2 .kept .1 .1 .0) ∙ (c .before .before .before .before .before .before .before .before .before .before .before .before .before .before .before .before .before .before .before .before .before .before .before .before .func-name .kept .1 .1 .0)
+same-length-3 c = (c .before .before .before .before .before .before .def-node .kept .1 .1 .1 .1 .0) ∙ (c .before .before .before .before .before .before .before .before .before .before .before .before .before .before .before .before .opt-real-sym2 .kept .1 .1 .0) ∙ (c .before .before .before .before .before .before .before .before .before .before .before .before .before .before .before .before .before .before .before .before .before .before .before .before .opt-real-sym .kept .1 .1 .0)
 
 -- src/define.rt:117:1
 returns : tie.Need-returns
-returns c = λ k. at-def _ _ _ _ k _ _ (c .before .before .before .before .before .before .before .before .before .before .before .before .before .before .before .before .before .before .before .before .before .before .before .before .before .before .before .before .opt-range-at .result) (c .before .before .before .before .before .before .before .before .before .before .before .before .before .before .before .before .before .before .before .before .before .before .before .before .before .before .before .opt-range-at2 .result) _ _ _ _ _ _ _ _ _ (c .before .before .before .before .before .before .before .before .before .before .before .before .before .before .before .before .before .before .before .before .before .before .before .before .before .before .before .before .before .behind .ensures) (c .before .before .before .before .before .before .before .before .before .before .before .before .before .before .before .before .before .before .before .before .before .before .before .before .before .before .before .before .opt-range-at .ensures) (c .before .before .before .before .before .before .before .before .before .before .before .before .before .before .before .before .before .before .before .before .before .before .before .before .before .before .before .opt-range-at2 .ensures) ((c .before .before .before .before .before .before .before .before .before .before .before .before .before .before .before .before .before .before .before .before .before .before .before .before .func-name .ensures) _) ((c .before .before .before .before .before .before .before .before .before .before .before .before .before .before .before .before .func-name2 .ensures) _) (c .before .before .before .before .before .before .before .before .before .before .behind2 .ensures) (c .before .before .before .before .before .before .def-node .ensures)
+returns c = λ k. at-def _ _ _ _ k _ _ (c .before .before .before .before .before .before .before .before .before .before .before .before .before .before .before .before .before .before .before .before .before .before .before .before .before .before .before .before .opt-range-at .result) (c .before .before .before .before .before .before .before .before .before .before .before .before .before .before .before .before .before .before .before .before .before .before .before .before .before .before .before .opt-range-at2 .result) _ _ _ _ _ _ _ _ _ (c .before .before .before .before .before .before .before .before .before .before .before .before .before .before .before .before .before .before .before .before .before .before .before .before .before .before .before .before .before .behind .ensures) (c .before .before .before .before .before .before .before .before .before .before .before .before .before .before .before .before .before .before .before .before .before .before .before .before .before .before .before .before .opt-range-at .ensures) (c .before .before .before .before .before .before .before .before .before .before .before .before .before .before .before .before .before .before .before .before .before .before .before .before .before .before .before .opt-range-at2 .ensures) ((c .before .before .before .before .before .before .before .before .before .before .before .before .before .before .before .before .before .before .before .before .before .before .before .before .opt-real-sym .ensures) _) ((c .before .before .before .before .before .before .before .before .before .before .before .before .before .before .before .before .opt-real-sym2 .ensures) _) (c .before .before .before .before .before .before .before .before .before .before .behind2 .ensures) (c .before .before .before .before .before .before .def-node .ensures)
 
 pub compile-def-spec : {M : Type 1} → statement M
 compile-def-spec =
@@ -61,8 +61,8 @@ compile-def-spec =
     behind-requires
     opt-range-at-requires
     opt-range-at-requires-2
-    func-name-requires
-    func-name-requires-2
+    opt-real-sym-requires
+    opt-real-sym-requires-2
     behind-requires-2
     def-node-requires
     same-length

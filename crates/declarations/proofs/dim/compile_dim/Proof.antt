@@ -5,11 +5,11 @@ use Rattle.declarations.proofs.dim.compile_dim.Tie as tie
 use Rattle.declarations.proofs.dim.compile_dim.Reads as reads
 use Rattle.declarations.proofs.dim.compile_dim.Lts as lts
 use Rattle.declarations.proofs.dim.dim_each.Reads as dim-each-reads
-use Rattle.expressions.proofs.expr.count_at.Reads as count-at-reads
+use Rattle.expressions.proofs.expr.read_payload.Reads as read-payload-reads
 
 -- src/dim.rt:122:9
-count-at-requires : tie.Need-count-at-requires
-count-at-requires c κs = search needs
+read-payload-requires : tie.Need-read-payload-requires
+read-payload-requires c κs = search needs
 
 -- src/dim.rt:123:5
 dim-each-requires : tie.Need-dim-each-requires
@@ -29,9 +29,9 @@ same-length-3 c = search needs
 
 -- src/dim.rt:109:1
 returns : tie.Need-returns
-returns c = λ k r. at-dim _ _ _ _ _ _ _ _ _ _ _ _ (c .before .before .before .before .before .before .before .before .before .before .count-at .ensures) (c .before .before .before .before .before .before .dim-each .ensures)
+returns c = λ k r. at-dim _ _ _ _ _ _ _ _ _ _ _ _ (c .before .before .before .before .before .before .before .before .before .before .read-payload .ensures) (c .before .before .before .before .before .before .dim-each .ensures)
 
 pub compile-dim-spec : {M : Type 1} → statement M
 compile-dim-spec =
     tie.close
-    (tie.spec count-at-requires dim-each-requires same-length same-length-2 same-length-3 returns)
+    (tie.spec read-payload-requires dim-each-requires same-length same-length-2 same-length-3 returns)

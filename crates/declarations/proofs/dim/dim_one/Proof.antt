@@ -8,7 +8,7 @@ use Rattle.declarations.proofs.dim.dim_one.Reads as reads
 use Rattle.declarations.proofs.dim.dim_one.Lts as lts
 use Rattle.declarations.proofs.dim.dim_node.Reads as dim-node-reads
 use Rattle.expressions.proofs.expr.compile_args.Reads as compile-args-reads
-use Rattle.expressions.proofs.expr.count_at.Reads as count-at-reads
+use Rattle.expressions.proofs.expr.read_payload.Reads as read-payload-reads
 use Rattle.nodes.proofs.node.opt_range_at.Reads as opt-range-at-reads
 use Rattle.recorder.proofs.word.behind.Reads as behind-reads
 use Rattle.recorder.proofs.word.payload_at.Reads as payload-at-reads
@@ -39,8 +39,8 @@ behind-requires-3 : tie.Need-behind-requires-3
 behind-requires-3 c κs = search needs
 
 -- src/dim.rt:60:13
-count-at-requires : tie.Need-count-at-requires
-count-at-requires c κs = search needs
+read-payload-requires : tie.Need-read-payload-requires
+read-payload-requires c κs = search needs
 
 -- src/dim.rt:72:13
 sub-compile-args : tie.Need-sub-compile-args
@@ -72,7 +72,7 @@ same-length-3 c = search needs
 
 -- src/dim.rt:40:1
 returns-2 : tie.Need-returns-2
-returns-2 c = dim-array _ _ _ _ _ _ _ _ (c .before .before .before .before .before .before .before .before .before .before .before .before .before .before .before .before .before .before .before .before .before .before .before .opt-range-at .result) _ _ _ _ _ _ _ (plain-head _ _ _ _ _ _ (c .before .before .before .before .before .before .before .before .before .before .before .before .before .before .before .before .before .before .before .before .before .before .before .before .before .before .before .before .if1 .left) (c .before .before .before .before .before .before .before .before .before .before .before .before .before .before .before .before .before .before .before .before .before .before .before .before .before .before .before .payload-at .ensures) (c .before .before .before .before .before .before .before .before .before .before .before .before .before .before .before .before .before .before .before .before .before .before .before .before .before .before .behind .ensures) (c .before .before .before .before .before .before .before .before .before .before .before .before .before .before .before .before .before .before .before .before .before .before .before .before .before .behind2 .ensures)) (c .before .before .before .before .before .before .before .before .before .before .before .before .before .before .before .before .before .before .before .before .before .before .before .before .if2 .taken) (c .before .before .before .before .before .before .before .before .before .before .before .before .before .before .before .before .before .before .before .before .before .before .before .opt-range-at .ensures) (c .before .before .before .before .before .before .before .before .before .before .before .before .before .before .before .before .before .before .before .before .before .before .behind3 .ensures) (c .before .before .before .before .before .before .before .before .before .before .before .before .before .before .before .before .before .before .before .before .before .count-at .ensures) (c .before .before .before .before .before .before .before .before .before .before .before .before .before .before .before .before .before .compile-args .ensures) (c .before .before .before .before .before .before .dim-node .ensures)
+returns-2 c = dim-array _ _ _ _ _ _ _ _ (c .before .before .before .before .before .before .before .before .before .before .before .before .before .before .before .before .before .before .before .before .before .before .before .opt-range-at .result) _ _ _ _ _ _ _ (plain-head _ _ _ _ _ _ (c .before .before .before .before .before .before .before .before .before .before .before .before .before .before .before .before .before .before .before .before .before .before .before .before .before .before .before .before .if1 .left) (c .before .before .before .before .before .before .before .before .before .before .before .before .before .before .before .before .before .before .before .before .before .before .before .before .before .before .before .payload-at .ensures) (c .before .before .before .before .before .before .before .before .before .before .before .before .before .before .before .before .before .before .before .before .before .before .before .before .before .before .behind .ensures) (c .before .before .before .before .before .before .before .before .before .before .before .before .before .before .before .before .before .before .before .before .before .before .before .before .before .behind2 .ensures)) (c .before .before .before .before .before .before .before .before .before .before .before .before .before .before .before .before .before .before .before .before .before .before .before .before .if2 .taken) (c .before .before .before .before .before .before .before .before .before .before .before .before .before .before .before .before .before .before .before .before .before .before .before .opt-range-at .ensures) (c .before .before .before .before .before .before .before .before .before .before .before .before .before .before .before .before .before .before .before .before .before .before .behind3 .ensures) (c .before .before .before .before .before .before .before .before .before .before .before .before .before .before .before .before .before .before .before .before .before .read-payload .ensures) (c .before .before .before .before .before .before .before .before .before .before .before .before .before .before .before .before .before .compile-args .ensures) (c .before .before .before .before .before .before .dim-node .ensures)
 
 -- src/dim.rt:40:1
 returns-3 : tie.Need-returns-3
@@ -88,7 +88,7 @@ dim-one-spec =
     behind-requires-2
     opt-range-at-requires
     behind-requires-3
-    count-at-requires
+    read-payload-requires
     sub-compile-args
     compile-args-requires
     dim-node-requires

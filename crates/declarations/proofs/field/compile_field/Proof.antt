@@ -8,7 +8,7 @@ use Rattle.declarations.proofs.field.compile_field.Reads as reads
 use Rattle.declarations.proofs.field.compile_field.Lts as lts
 use Rattle.declarations.proofs.field.field_each.Reads as field-each-reads
 use Rattle.expressions.proofs.expr.compile_typed.Reads as compile-typed-reads
-use Rattle.expressions.proofs.expr.count_at.Reads as count-at-reads
+use Rattle.expressions.proofs.expr.read_payload.Reads as read-payload-reads
 use Rattle.recorder.proofs.codegen.emit_field.Reads as emit-field-reads
 use Rattle.walk.proofs.stmt.skip_expr.Reads as skip-expr-reads
 
@@ -17,8 +17,8 @@ skip-expr-requires : tie.Need-skip-expr-requires
 skip-expr-requires c κs = search needs
 
 -- src/field.rt:79:9
-count-at-requires : tie.Need-count-at-requires
-count-at-requires c κs = search needs
+read-payload-requires : tie.Need-read-payload-requires
+read-payload-requires c κs = search needs
 
 -- src/field.rt:80:9
 field-each-requires : tie.Need-field-each-requires
@@ -46,14 +46,14 @@ same-length-3 c = (c .before .before .before .before .before .before .before .be
 
 -- src/field.rt:64:1
 returns : tie.Need-returns
-returns c = λ k. at-field _ _ _ _ _ _ _ _ _ _ _ _ _ _ _ _ (c .before .before .before .before .before .before .before .before .before .before .before .before .before .before .before .before .before .before .before .before .before .before .before .before .before .before .before .skip-expr .ensures) (c .before .before .before .before .before .before .before .before .before .before .before .before .before .before .before .before .before .before .before .before .before .before .before .before .before .before .count-at .ensures) (c .before .before .before .before .before .before .before .before .before .before .before .before .before .before .before .before .before .before .before .before .before .before .field-each .ensures) (c .before .before .before .before .before .before .before .before .before .before .before .compile-typed .ensures) (put-at _ _ _ _ _ _ _ _ _ _ _ (c .before .before .emit-field .ensures))
+returns c = λ k. at-field _ _ _ _ _ _ _ _ _ _ _ _ _ _ _ _ (c .before .before .before .before .before .before .before .before .before .before .before .before .before .before .before .before .before .before .before .before .before .before .before .before .before .before .before .skip-expr .ensures) (c .before .before .before .before .before .before .before .before .before .before .before .before .before .before .before .before .before .before .before .before .before .before .before .before .before .before .read-payload .ensures) (c .before .before .before .before .before .before .before .before .before .before .before .before .before .before .before .before .before .before .before .before .before .before .field-each .ensures) (c .before .before .before .before .before .before .before .before .before .before .before .compile-typed .ensures) (put-at _ _ _ _ _ _ _ _ _ _ _ (c .before .before .emit-field .ensures))
 
 pub compile-field-spec : {M : Type 1} → statement M
 compile-field-spec =
     tie.close
     (tie.spec
     skip-expr-requires
-    count-at-requires
+    read-payload-requires
     field-each-requires
     compile-typed-requires
     emit-field-requires

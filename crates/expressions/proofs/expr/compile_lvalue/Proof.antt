@@ -7,8 +7,8 @@ use Rattle.expressions.proofs.expr.compile_lvalue.Tie as tie
 use Rattle.expressions.proofs.expr.compile_lvalue.Reads as reads
 use Rattle.expressions.proofs.expr.compile_lvalue.Lts as lts
 use Rattle.expressions.proofs.expr.compile_args.Reads as compile-args-reads
-use Rattle.expressions.proofs.expr.count_at.Reads as count-at-reads
-use Rattle.expressions.proofs.expr.expr_range.Reads as expr-range-reads
+use Rattle.expressions.proofs.expr.read_payload.Reads as read-payload-reads
+use Rattle.expressions.proofs.expr.node_range.Reads as node-range-reads
 use Rattle.nodes.proofs.node.index_place.Reads as index-place-reads
 use Rattle.nodes.proofs.node.opt_range_at.Reads as opt-range-at-reads
 use Rattle.nodes.proofs.node.var_place.Reads as var-place-reads
@@ -25,8 +25,8 @@ payload-at-requires : tie.Need-payload-at-requires
 payload-at-requires c κs = search needs
 
 -- src/expr.rt:323:9
-expr-range-requires : tie.Need-expr-range-requires
-expr-range-requires c κs = search needs
+node-range-requires : tie.Need-node-range-requires
+node-range-requires c κs = search needs
 
 -- src/expr.rt:324:43
 behind-requires : tie.Need-behind-requires
@@ -49,8 +49,8 @@ behind-requires-3 : tie.Need-behind-requires-3
 behind-requires-3 c κs = search needs
 
 -- src/expr.rt:334:17
-count-at-requires : tie.Need-count-at-requires
-count-at-requires c κs = search needs
+read-payload-requires : tie.Need-read-payload-requires
+read-payload-requires c κs = search needs
 
 -- src/expr.rt:346:17
 sub-compile-args : tie.Need-sub-compile-args
@@ -82,7 +82,7 @@ same-length-3 c = search needs
 
 -- src/expr.rt:302:1
 returns-2 : tie.Need-returns-2
-returns-2 c = place-var _ _ _ _ _ _ _ _ _ _ _ (head _ _ _ _ _ _ _ (c .before .before .before .before .before .before .before .before .before .before .before .before .before .before .before .before .if1 .left) (c .before .before .before .before .before .before .before .before .before .before .before .before .before .before .before .payload-at .ensures) (c .before .before .before .before .before .before .before .before .before .before .before .before .before .before .expr-range .ensures) (c .before .before .before .before .before .before .before .before .before .before .before .before .before .behind .ensures) (c .before .before .before .before .before .before .before .before .before .before .before .before .behind2 .ensures)) (c .before .before .before .before .before .before .before .before .before .before .before .match .keys1) (c .before .before .before .before .before .before .before .var-place .ensures)
+returns-2 c = place-var _ _ _ _ _ _ _ _ _ _ _ (head _ _ _ _ _ _ _ (c .before .before .before .before .before .before .before .before .before .before .before .before .before .before .before .before .if1 .left) (c .before .before .before .before .before .before .before .before .before .before .before .before .before .before .before .payload-at .ensures) (c .before .before .before .before .before .before .before .before .before .before .before .before .before .before .node-range .ensures) (c .before .before .before .before .before .before .before .before .before .before .before .before .before .behind .ensures) (c .before .before .before .before .before .before .before .before .before .before .before .before .behind2 .ensures)) (c .before .before .before .before .before .before .before .before .before .before .before .match .keys1) (c .before .before .before .before .before .before .before .var-place .ensures)
 
 -- src/expr.rt:302:1
 same-length-4 : tie.Need-same-length-4
@@ -98,11 +98,11 @@ same-length-6 c = search needs
 
 -- src/expr.rt:302:1
 returns-3 : tie.Need-returns-3
-returns-3 c = place-index _ _ _ _ _ _ _ _ (c .before .before .before .before .before .before .before .before .before .before .before .before .before .before .before .before .before .before .before .before .before .before .before .before .opt-range-at .result) _ _ _ _ _ _ _ _ (head _ _ _ _ _ _ _ (c .before .before .before .before .before .before .before .before .before .before .before .before .before .before .before .before .before .before .before .before .before .before .before .before .before .before .before .before .before .before .if1 .left) (c .before .before .before .before .before .before .before .before .before .before .before .before .before .before .before .before .before .before .before .before .before .before .before .before .before .before .before .before .before .payload-at .ensures) (c .before .before .before .before .before .before .before .before .before .before .before .before .before .before .before .before .before .before .before .before .before .before .before .before .before .before .before .before .expr-range .ensures) (c .before .before .before .before .before .before .before .before .before .before .before .before .before .before .before .before .before .before .before .before .before .before .before .before .before .before .before .behind .ensures) (c .before .before .before .before .before .before .before .before .before .before .before .before .before .before .before .before .before .before .before .before .before .before .before .before .before .before .behind2 .ensures)) (c .before .before .before .before .before .before .before .before .before .before .before .before .before .before .before .before .before .before .before .before .before .before .before .before .before .match .keys2) (c .before .before .before .before .before .before .before .before .before .before .before .before .before .before .before .before .before .before .before .before .before .before .before .before .opt-range-at .ensures) (c .before .before .before .before .before .before .before .before .before .before .before .before .before .before .before .before .before .before .before .before .before .before .before .behind3 .ensures) (c .before .before .before .before .before .before .before .before .before .before .before .before .before .before .before .before .before .before .before .before .before .before .count-at .ensures) (c .before .before .before .before .before .before .before .before .before .before .before .before .before .before .before .before .before .before .compile-args .ensures) (c .before .before .before .before .before .before .before .index-place .ensures)
+returns-3 c = place-index _ _ _ _ _ _ _ _ (c .before .before .before .before .before .before .before .before .before .before .before .before .before .before .before .before .before .before .before .before .before .before .before .before .opt-range-at .result) _ _ _ _ _ _ _ _ (head _ _ _ _ _ _ _ (c .before .before .before .before .before .before .before .before .before .before .before .before .before .before .before .before .before .before .before .before .before .before .before .before .before .before .before .before .before .before .if1 .left) (c .before .before .before .before .before .before .before .before .before .before .before .before .before .before .before .before .before .before .before .before .before .before .before .before .before .before .before .before .before .payload-at .ensures) (c .before .before .before .before .before .before .before .before .before .before .before .before .before .before .before .before .before .before .before .before .before .before .before .before .before .before .before .before .node-range .ensures) (c .before .before .before .before .before .before .before .before .before .before .before .before .before .before .before .before .before .before .before .before .before .before .before .before .before .before .before .behind .ensures) (c .before .before .before .before .before .before .before .before .before .before .before .before .before .before .before .before .before .before .before .before .before .before .before .before .before .before .behind2 .ensures)) (c .before .before .before .before .before .before .before .before .before .before .before .before .before .before .before .before .before .before .before .before .before .before .before .before .before .match .keys2) (c .before .before .before .before .before .before .before .before .before .before .before .before .before .before .before .before .before .before .before .before .before .before .before .before .opt-range-at .ensures) (c .before .before .before .before .before .before .before .before .before .before .before .before .before .before .before .before .before .before .before .before .before .before .before .behind3 .ensures) (c .before .before .before .before .before .before .before .before .before .before .before .before .before .before .before .before .before .before .before .before .before .before .read-payload .ensures) (c .before .before .before .before .before .before .before .before .before .before .before .before .before .before .before .before .before .before .compile-args .ensures) (c .before .before .before .before .before .before .before .index-place .ensures)
 
 -- src/expr.rt:302:1
 returns-4 : tie.Need-returns-4
-returns-4 c = let q = (c .before .match .rest) in place-other _ _ _ _ _ _ _ _ _ _ (head _ _ _ _ _ _ _ (c .before .before .before .before .before .before .if1 .left) (c .before .before .before .before .before .payload-at .ensures) (c .before .before .before .before .expr-range .ensures) (c .before .before .before .behind .ensures) (c .before .before .behind2 .ensures)) (q .0 .1) (q .1) (c .skip-expr .ensures)
+returns-4 c = let q = (c .before .match .rest) in place-other _ _ _ _ _ _ _ _ _ _ (head _ _ _ _ _ _ _ (c .before .before .before .before .before .before .if1 .left) (c .before .before .before .before .before .payload-at .ensures) (c .before .before .before .before .node-range .ensures) (c .before .before .before .behind .ensures) (c .before .before .behind2 .ensures)) (q .0 .1) (q .1) (c .skip-expr .ensures)
 
 pub compile-lvalue-spec : {M : Type 1} → statement M
 compile-lvalue-spec =
@@ -110,13 +110,13 @@ compile-lvalue-spec =
     (tie.spec
     returns
     payload-at-requires
-    expr-range-requires
+    node-range-requires
     behind-requires
     behind-requires-2
     var-place-requires
     opt-range-at-requires
     behind-requires-3
-    count-at-requires
+    read-payload-requires
     sub-compile-args
     compile-args-requires
     index-place-requires

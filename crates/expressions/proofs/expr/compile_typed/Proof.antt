@@ -6,7 +6,7 @@ use Rattle.expressions.proofs.expr.compile_typed.Tie as tie
 use Rattle.expressions.proofs.expr.compile_typed.Reads as reads
 use Rattle.expressions.proofs.expr.compile_typed.Lts as lts
 use Rattle.expressions.proofs.expr.compile_expr.Reads as compile-expr-reads
-use Rattle.expressions.proofs.expr.expr_range.Reads as expr-range-reads
+use Rattle.expressions.proofs.expr.node_range.Reads as node-range-reads
 use Rattle.nodes.proofs.node.check_type.Reads as check-type-reads
 
 -- src/expr.rt:293:9
@@ -14,8 +14,8 @@ compile-expr-requires : tie.Need-compile-expr-requires
 compile-expr-requires c κs = search needs
 
 -- src/expr.rt:296:9
-expr-range-requires : tie.Need-expr-range-requires
-expr-range-requires c κs = search needs
+node-range-requires : tie.Need-node-range-requires
+node-range-requires c κs = search needs
 
 -- src/expr.rt:297:9
 check-type-requires : tie.Need-check-type-requires
@@ -35,14 +35,14 @@ same-length-3 c = search needs
 
 -- src/expr.rt:279:1
 returns : tie.Need-returns
-returns c = typed-of _ _ _ _ _ _ _ _ _ _ _ _ (c .before .before .before .before .before .before .before .before .before .before .before .before .compile-expr .ensures) (c .before .before .before .before .expr-range .ensures) ((c .before .before .check-type .ensures) _ _ _ _)
+returns c = typed-of _ _ _ _ _ _ _ _ _ _ _ _ (c .before .before .before .before .before .before .before .before .before .before .before .before .compile-expr .ensures) (c .before .before .before .before .node-range .ensures) ((c .before .before .check-type .ensures) _ _ _ _)
 
 pub compile-typed-spec : {M : Type 1} → statement M
 compile-typed-spec =
     tie.close
     (tie.spec
     compile-expr-requires
-    expr-range-requires
+    node-range-requires
     check-type-requires
     same-length
     same-length-2

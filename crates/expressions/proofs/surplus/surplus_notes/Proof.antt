@@ -5,14 +5,14 @@ use mathlib.Core.List.{List}
 use Prim.Native.Nat.{ℕ}
 use lib.ListN.{length}
 use Rattle.recorder.specs.Mem.{mem, memR}
+use Rattle.sheet.specs.Tree.{argsAt}
 use Rattle.rules.specs.Stmt.{surplusNotes}
-use Rattle.expressions.specs.Lists.{argsAt}
 use Rattle.expressions.proofs.SurplusLaws.{surplus-step, surplus-done}
 use Rattle.expressions.proofs.surplus.surplus_notes.Statement.{statement}
 use Rattle.expressions.proofs.surplus.surplus_notes.Tie as tie
 use Rattle.expressions.proofs.surplus.surplus_notes.Reads as reads
 use Rattle.expressions.proofs.surplus.surplus_notes.Lts as lts
-use Rattle.expressions.proofs.expr.expr_range.Reads as expr-range-reads
+use Rattle.expressions.proofs.expr.node_range.Reads as node-range-reads
 use Rattle.expressions.proofs.surplus.surplus_note.Reads as surplus-note-reads
 use Rattle.rules.proofs.name.less_one.Reads as less-one-reads
 use Rattle.walk.proofs.stmt.skip_expr.Reads as skip-expr-reads
@@ -24,43 +24,43 @@ Inv-loop sheet notes₀ at n max left s₀ p₀ keep₀ more₀ notes s p keep m
 abbrev μ-loop : tie.MeasureT-loop
 μ-loop sheet notes₀ at n max left s₀ p₀ keep₀ more₀ notes s p keep more = more
 
--- src/surplus.rt:41:5
+-- src/surplus.rt:40:5
 loop-holds : tie.Need-loop-holds Inv-loop μ-loop
 loop-holds c = (refl, λ t l b base. refl)
 
--- src/surplus.rt:42:13
-expr-range-requires : tie.Need-expr-range-requires Inv-loop μ-loop
-expr-range-requires c κs = search needs
+-- src/surplus.rt:41:13
+node-range-requires : tie.Need-node-range-requires Inv-loop μ-loop
+node-range-requires c κs = search needs
 
--- src/surplus.rt:43:9
+-- src/surplus.rt:42:9
 surplus-note-requires : tie.Need-surplus-note-requires Inv-loop μ-loop
 surplus-note-requires c κs = search needs
 
--- src/surplus.rt:44:9
+-- src/surplus.rt:43:9
 less-one-requires : tie.Need-less-one-requires Inv-loop μ-loop
 less-one-requires c κs = search needs
 
--- src/surplus.rt:45:9
+-- src/surplus.rt:44:9
 skip-expr-requires : tie.Need-skip-expr-requires Inv-loop μ-loop
 skip-expr-requires c κs = search needs
 
--- src/surplus.rt:46:9
+-- src/surplus.rt:45:9
 sub-more : tie.Need-sub-more Inv-loop μ-loop
 sub-more c = omega arith
 
--- src/surplus.rt:41:5
+-- src/surplus.rt:40:5
 loop-less : tie.Need-loop-less Inv-loop μ-loop
 loop-less c = omega arith
 
--- src/surplus.rt:41:5
+-- src/surplus.rt:40:5
 loop-again : tie.Need-loop-again Inv-loop μ-loop
-loop-again c = ((c .before .before .before .before .surplus-note .kept .0) ∙ (c .before .before .before .before .before .before .before .before .loop .inv .0), λ t l b base. surplus-step (c .before .before .before .before .before .before .before .before .before .before .before .args .sheet .now) t base (c .before .before .before .before .before .before .before .before .before .before .before .args .left) (c .before .before .before .before .before .before .before .before .loop .more) (c .before .before .before .before .before .before .before .before .loop .p) _ (c .before .before .before .before .before .before .before .before .loop .keep) _ _ _ _ (c .before .before .before .before .before .before .before .loop-test .taken) (c .before .before .before .before .before .before .expr-range .ensures) ((c .before .before .before .before .surplus-note .ensures) t l b) (c .before .less-one .ensures) (c .skip-expr .ensures) ∙ (c .before .before .before .before .before .before .before .before .loop .inv .1) t l b base)
+loop-again c = ((c .before .before .before .before .surplus-note .kept .0) ∙ (c .before .before .before .before .before .before .before .before .loop .inv .0), λ t l b base. surplus-step (c .before .before .before .before .before .before .before .before .before .before .before .args .sheet .now) t base (c .before .before .before .before .before .before .before .before .before .before .before .args .left) (c .before .before .before .before .before .before .before .before .loop .more) (c .before .before .before .before .before .before .before .before .loop .p) _ (c .before .before .before .before .before .before .before .before .loop .keep) _ _ _ _ (c .before .before .before .before .before .before .before .loop-test .taken) (c .before .before .before .before .before .before .node-range .ensures) ((c .before .before .before .before .surplus-note .ensures) t l b) (c .before .less-one .ensures) (c .skip-expr .ensures) ∙ (c .before .before .before .before .before .before .before .before .loop .inv .1) t l b base)
 
--- src/surplus.rt:26:1
+-- src/surplus.rt:25:1
 same-length : tie.Need-same-length Inv-loop μ-loop
 same-length c = (c .before .loop .inv .0)
 
--- src/surplus.rt:26:1
+-- src/surplus.rt:25:1
 returns : tie.Need-returns Inv-loop μ-loop
 returns c = λ t l b base. surplus-done (c .before .before .before .before .args .sheet .now) t base (c .before .before .before .before .args .left) (c .before .loop .more) _ _ _ (c .before .loop .keep) _ _ _ (c .loop-test .left) ((c .before .loop .inv .1) t l b base)
 
@@ -71,7 +71,7 @@ surplus-notes-spec =
     Inv-loop
     μ-loop
     loop-holds
-    expr-range-requires
+    node-range-requires
     surplus-note-requires
     less-one-requires
     skip-expr-requires

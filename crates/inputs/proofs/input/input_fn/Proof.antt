@@ -8,8 +8,8 @@ use Rattle.inputs.proofs.input.input_fn.Lts as lts
 use Rattle.inputs.proofs.input.fn_place.Reads as fn-place-reads
 use Rattle.inputs.proofs.input.input_arg.Reads as input-arg-reads
 use Rattle.inputs.proofs.input.is_ident.Reads as is-ident-reads
-use Rattle.expressions.proofs.expr.expr_range.Reads as expr-range-reads
-use Rattle.nodes.proofs.node.func_name.Reads as func-name-reads
+use Rattle.expressions.proofs.expr.node_range.Reads as node-range-reads
+use Rattle.nodes.proofs.node.opt_real_sym.Reads as opt-real-sym-reads
 use Rattle.nodes.proofs.node.opt_range_at.Reads as opt-range-at-reads
 use Rattle.recorder.proofs.word.behind.Reads as behind-reads
 
@@ -22,16 +22,16 @@ behind-requires : tie.Need-behind-requires
 behind-requires c κs = search needs
 
 -- src/input.rt:86:9
-func-name-requires : tie.Need-func-name-requires
-func-name-requires c κs = search needs
+opt-real-sym-requires : tie.Need-opt-real-sym-requires
+opt-real-sym-requires c κs = search needs
 
 -- src/input.rt:88:9
 is-ident-requires : tie.Need-is-ident-requires
 is-ident-requires c κs = search needs
 
 -- src/input.rt:89:9
-expr-range-requires : tie.Need-expr-range-requires
-expr-range-requires c κs = search needs
+node-range-requires : tie.Need-node-range-requires
+node-range-requires c κs = search needs
 
 -- src/input.rt:90:9
 input-arg-requires : tie.Need-input-arg-requires
@@ -47,15 +47,15 @@ same-length c = search needs
 
 -- src/input.rt:70:1
 same-length-2 : tie.Need-same-length-2
-same-length-2 c = (c .before .before .before .before .before .before .before .before .before .input-arg .kept .1 .0) ∙ (c .before .before .before .before .before .before .before .before .before .before .before .before .before .before .before .before .before .before .before .func-name .kept .1 .0)
+same-length-2 c = (c .before .before .before .before .before .before .before .before .before .input-arg .kept .1 .0) ∙ (c .before .before .before .before .before .before .before .before .before .before .before .before .before .before .before .before .before .before .before .opt-real-sym .kept .1 .0)
 
 -- src/input.rt:70:1
 same-length-3 : tie.Need-same-length-3
-same-length-3 c = (c .before .before .before .before .before .before .before .before .before .input-arg .kept .1 .1 .0) ∙ (c .before .before .before .before .before .before .before .before .before .before .before .before .before .before .before .before .before .before .before .func-name .kept .1 .1 .0)
+same-length-3 c = (c .before .before .before .before .before .before .before .before .before .input-arg .kept .1 .1 .0) ∙ (c .before .before .before .before .before .before .before .before .before .before .before .before .before .before .before .before .before .before .before .opt-real-sym .kept .1 .1 .0)
 
 -- src/input.rt:70:1
 returns : tie.Need-returns
-returns c = input-fn-of _ _ _ _ _ _ (c .before .before .before .before .before .before .before .before .before .before .before .before .before .before .before .before .before .before .before .before .before .before .before .opt-range-at .result) _ _ _ _ _ _ _ _ _ (c .before .before .before .before .before .before .before .before .before .before .before .before .before .before .before .before .before .before .before .before .before .before .before .opt-range-at .ensures) (c .before .before .before .before .before .before .before .before .before .before .before .before .before .before .before .before .before .before .before .before .before .before .behind .ensures) ((c .before .before .before .before .before .before .before .before .before .before .before .before .before .before .before .before .before .before .before .func-name .ensures) _) (c .before .before .before .before .before .before .before .before .before .before .before .before .before .is-ident .ensures) (c .before .before .before .before .before .before .before .before .before .before .before .before .expr-range .ensures) ((c .before .before .before .before .before .before .before .before .before .input-arg .ensures) _) ((c .before .before .fn-place .ensures) (c .before .before .before .before .before .before .before .before .before .before .before .before .before .before .before .before .before .before .before .before .before .before .before .before .before .before .before .before .before .args .text .now) _ _ (c .before .before .before .before .before .before .before .before .before .before .before .before .before .before .before .before .before .before .before .before .before .before .before .before .before .before .before .before .before .args .base))
+returns c = input-fn-of _ _ _ _ _ _ (c .before .before .before .before .before .before .before .before .before .before .before .before .before .before .before .before .before .before .before .before .before .before .before .opt-range-at .result) _ _ _ _ _ _ _ _ _ (c .before .before .before .before .before .before .before .before .before .before .before .before .before .before .before .before .before .before .before .before .before .before .before .opt-range-at .ensures) (c .before .before .before .before .before .before .before .before .before .before .before .before .before .before .before .before .before .before .before .before .before .before .behind .ensures) ((c .before .before .before .before .before .before .before .before .before .before .before .before .before .before .before .before .before .before .before .opt-real-sym .ensures) _) (c .before .before .before .before .before .before .before .before .before .before .before .before .before .is-ident .ensures) (c .before .before .before .before .before .before .before .before .before .before .before .before .node-range .ensures) ((c .before .before .before .before .before .before .before .before .before .input-arg .ensures) _) ((c .before .before .fn-place .ensures) (c .before .before .before .before .before .before .before .before .before .before .before .before .before .before .before .before .before .before .before .before .before .before .before .before .before .before .before .before .before .args .text .now) _ _ (c .before .before .before .before .before .before .before .before .before .before .before .before .before .before .before .before .before .before .before .before .before .before .before .before .before .before .before .before .before .args .base))
 
 pub input-fn-spec : {M : Type 1} → statement M
 input-fn-spec =
@@ -63,9 +63,9 @@ input-fn-spec =
     (tie.spec
     opt-range-at-requires
     behind-requires
-    func-name-requires
+    opt-real-sym-requires
     is-ident-requires
-    expr-range-requires
+    node-range-requires
     input-arg-requires
     fn-place-requires
     same-length

@@ -9,7 +9,7 @@ use Rattle.inputs.proofs.input.input_var.Reads as reads
 use Rattle.inputs.proofs.input.input_var.Lts as lts
 use Rattle.inputs.proofs.input.fn_input.Reads as fn-input-reads
 use Rattle.expressions.proofs.expr.compile_lvalue.Reads as compile-lvalue-reads
-use Rattle.expressions.proofs.expr.expr_range.Reads as expr-range-reads
+use Rattle.expressions.proofs.expr.node_range.Reads as node-range-reads
 use Rattle.recorder.proofs.word.behind.Reads as behind-reads
 use Rattle.recorder.proofs.word.payload_at.Reads as payload-at-reads
 use Rattle.walk.proofs.stmt.skip_expr.Reads as skip-expr-reads
@@ -23,8 +23,8 @@ payload-at-requires : tie.Need-payload-at-requires
 payload-at-requires c κs = search needs
 
 -- src/input.rt:136:9
-expr-range-requires : tie.Need-expr-range-requires
-expr-range-requires c κs = search needs
+node-range-requires : tie.Need-node-range-requires
+node-range-requires c κs = search needs
 
 -- src/input.rt:137:43
 behind-requires : tie.Need-behind-requires
@@ -64,7 +64,7 @@ same-length-3 c = search needs
 
 -- src/input.rt:118:1
 returns-2 : tie.Need-returns-2
-returns-2 c = taken-fn _ _ _ _ _ _ _ _ _ _ _ _ (head _ _ _ _ _ _ _ (c .before .before .before .before .before .before .before .before .before .before .before .before .before .before .before .before .if1 .left) (c .before .before .before .before .before .before .before .before .before .before .before .before .before .before .before .payload-at .ensures) (c .before .before .before .before .before .before .before .before .before .before .before .before .before .before .expr-range .ensures) (c .before .before .before .before .before .before .before .before .before .before .before .before .before .behind .ensures) (c .before .before .before .before .before .before .before .before .before .before .before .before .behind2 .ensures)) (c .before .before .before .before .before .before .before .before .before .before .before .if2 .taken) (c .before .before .before .before .before .before .before .fn-input .ensures) (c .skip-expr .ensures)
+returns-2 c = taken-fn _ _ _ _ _ _ _ _ _ _ _ _ (head _ _ _ _ _ _ _ (c .before .before .before .before .before .before .before .before .before .before .before .before .before .before .before .before .if1 .left) (c .before .before .before .before .before .before .before .before .before .before .before .before .before .before .before .payload-at .ensures) (c .before .before .before .before .before .before .before .before .before .before .before .before .before .before .node-range .ensures) (c .before .before .before .before .before .before .before .before .before .before .before .before .before .behind .ensures) (c .before .before .before .before .before .before .before .before .before .before .before .before .behind2 .ensures)) (c .before .before .before .before .before .before .before .before .before .before .before .if2 .taken) (c .before .before .before .before .before .before .before .fn-input .ensures) (c .skip-expr .ensures)
 
 -- src/input.rt:118:1
 same-length-4 : tie.Need-same-length-4
@@ -80,7 +80,7 @@ same-length-6 c = search needs
 
 -- src/input.rt:118:1
 returns-3 : tie.Need-returns-3
-returns-3 c = taken-place _ _ _ _ _ _ _ _ _ _ _ _ _ (head _ _ _ _ _ _ _ (c .before .before .before .before .before .before .before .before .before .before .before .before .before .before .before .before .if1 .left) (c .before .before .before .before .before .before .before .before .before .before .before .before .before .before .before .payload-at .ensures) (c .before .before .before .before .before .before .before .before .before .before .before .before .before .before .expr-range .ensures) (c .before .before .before .before .before .before .before .before .before .before .before .before .before .behind .ensures) (c .before .before .before .before .before .before .before .before .before .before .before .before .behind2 .ensures)) (c .before .before .before .before .before .before .before .before .before .before .before .if2 .left) (c .before .before .before .before .before .before .before .compile-lvalue .ensures)
+returns-3 c = taken-place _ _ _ _ _ _ _ _ _ _ _ _ _ (head _ _ _ _ _ _ _ (c .before .before .before .before .before .before .before .before .before .before .before .before .before .before .before .before .if1 .left) (c .before .before .before .before .before .before .before .before .before .before .before .before .before .before .before .payload-at .ensures) (c .before .before .before .before .before .before .before .before .before .before .before .before .before .before .node-range .ensures) (c .before .before .before .before .before .before .before .before .before .before .before .before .before .behind .ensures) (c .before .before .before .before .before .before .before .before .before .before .before .before .behind2 .ensures)) (c .before .before .before .before .before .before .before .before .before .before .before .if2 .left) (c .before .before .before .before .before .before .before .compile-lvalue .ensures)
 
 pub input-var-spec : {M : Type 1} → statement M
 input-var-spec =
@@ -88,7 +88,7 @@ input-var-spec =
     (tie.spec
     returns
     payload-at-requires
-    expr-range-requires
+    node-range-requires
     behind-requires
     behind-requires-2
     sub-fn-input

@@ -3,7 +3,8 @@ use native.Mathlib.Omega.{arith}
 use mathlib.Core.Path.{_≡_, refl, _∙_}
 use Rattle.sheet.specs.Skip.{skipRepeat}
 use Rattle.expressions.specs.Lists.{twoOn}
-use Rattle.jumps.proofs.JumpLaws.{over-step, over-done}
+use Rattle.expressions.proofs.Lists.{step-two}
+use Rattle.jumps.proofs.JumpLaws.{over-done}
 use Rattle.jumps.proofs.jump.behind_targets.Statement.{statement}
 use Rattle.jumps.proofs.jump.behind_targets.Tie as tie
 use Rattle.jumps.proofs.jump.behind_targets.Reads as reads
@@ -38,7 +39,7 @@ loop-less c = omega arith
 
 -- src/jump.rt:175:5
 loop-again : tie.Need-loop-again Inv-loop μ-loop
-loop-again c = over-step (c .before .before .before .before .before .args .sheet .now) (c .before .before .before .loop .more) (c .before .before .before .loop .p) _ _ (c .before .before .loop-test .taken) (c .before .behind .ensures) (c .behind2 .ensures) ∙ (c .before .before .before .loop .inv)
+loop-again c = step-two (c .before .before .before .before .before .args .sheet .now) (c .before .before .before .loop .more) (c .before .before .before .loop .p) _ _ (c .before .before .loop-test .taken) (c .before .behind .ensures) (c .behind2 .ensures) ∙ (c .before .before .before .loop .inv)
 
 -- src/jump.rt:170:1
 returns : tie.Need-returns Inv-loop μ-loop

@@ -4,7 +4,7 @@ use Rattle.jumps.proofs.jump.compile_go.Statement.{statement}
 use Rattle.jumps.proofs.jump.compile_go.Tie as tie
 use Rattle.jumps.proofs.jump.compile_go.Reads as reads
 use Rattle.jumps.proofs.jump.compile_go.Lts as lts
-use Rattle.jumps.proofs.jump.waiting_jump.Reads as waiting-jump-reads
+use Rattle.jumps.proofs.jump.pending_jump.Reads as pending-jump-reads
 
 -- src/jump.rt:90:26
 enum-known-o : tie.Need-enum-known-o
@@ -15,8 +15,8 @@ enum-told : tie.Need-enum-told
 enum-told c = search needs
 
 -- src/jump.rt:91:9
-waiting-jump-requires : tie.Need-waiting-jump-requires
-waiting-jump-requires c κs = search needs
+pending-jump-requires : tie.Need-pending-jump-requires
+pending-jump-requires c κs = search needs
 
 -- src/jump.rt:91:9
 same-length : tie.Need-same-length
@@ -24,11 +24,11 @@ same-length c = search needs
 
 -- src/jump.rt:91:9
 returns : tie.Need-returns
-returns c = λ t n b base. go-absent t base _ _ (c .before .before .before .before .before .before .before .args .o) _ _ (c .before .before .before .before .enum-told .given .1) ((c .before .before .waiting-jump .ensures) t n b base)
+returns c = λ t n b base. go-absent t base _ _ (c .before .before .before .before .before .before .before .args .o) _ _ (c .before .before .before .before .enum-told .given .1) ((c .before .before .pending-jump .ensures) t n b base)
 
 -- src/jump.rt:93:5
-waiting-jump-requires-2 : tie.Need-waiting-jump-requires-2
-waiting-jump-requires-2 c κs = search needs
+pending-jump-requires-2 : tie.Need-pending-jump-requires-2
+pending-jump-requires-2 c κs = search needs
 
 -- src/jump.rt:87:1
 same-length-2 : tie.Need-same-length-2
@@ -36,7 +36,7 @@ same-length-2 c = search needs
 
 -- src/jump.rt:87:1
 returns-2 : tie.Need-returns-2
-returns-2 c = λ t n b base. go-given t base _ _ _ _ (c .before .before .before .before .before .before .before .before .args .o) _ _ (c .before .before .before .before .before .o .given .1) ((c .before .before .waiting-jump2 .ensures) t n b base)
+returns-2 c = λ t n b base. go-given t base _ _ _ _ (c .before .before .before .before .before .before .before .before .args .o) _ _ (c .before .before .before .before .before .o .given .1) ((c .before .before .pending-jump2 .ensures) t n b base)
 
 pub compile-go-spec : {M : Type 1} → statement M
 compile-go-spec =
@@ -44,9 +44,9 @@ compile-go-spec =
     (tie.spec
     enum-known-o
     enum-told
-    waiting-jump-requires
+    pending-jump-requires
     same-length
     returns
-    waiting-jump-requires-2
+    pending-jump-requires-2
     same-length-2
     returns-2)

@@ -7,7 +7,7 @@ use Rattle.jumps.proofs.jump.compile_on.Tie as tie
 use Rattle.jumps.proofs.jump.compile_on.Reads as reads
 use Rattle.jumps.proofs.jump.compile_on.Lts as lts
 use Rattle.expressions.proofs.expr.compile_typed.Reads as compile-typed-reads
-use Rattle.expressions.proofs.expr.count_at.Reads as count-at-reads
+use Rattle.expressions.proofs.expr.read_payload.Reads as read-payload-reads
 use Rattle.jumps.proofs.jump.behind_targets.Reads as behind-targets-reads
 use Rattle.jumps.proofs.jump.on_jumps.Reads as on-jumps-reads
 use Rattle.recorder.proofs.codegen.emit_on.Reads as emit-on-reads
@@ -19,8 +19,8 @@ compile-typed-requires : tie.Need-compile-typed-requires
 compile-typed-requires c κs = search needs
 
 -- src/jump.rt:211:9
-count-at-requires : tie.Need-count-at-requires
-count-at-requires c κs = search needs
+read-payload-requires : tie.Need-read-payload-requires
+read-payload-requires c κs = search needs
 
 -- src/jump.rt:212:9
 behind-targets-requires : tie.Need-behind-targets-requires
@@ -56,14 +56,14 @@ same-length-3 c = (c .before .before .before .before .before .before .before .be
 
 -- src/jump.rt:184:1
 returns : tie.Need-returns
-returns c = λ k. on-of _ _ _ _ _ _ _ _ _ _ _ _ _ _ _ _ _ (c .before .before .before .before .before .before .before .before .before .before .before .before .before .before .before .before .before .before .before .compile-typed .ensures) (c .before .before .before .before .before .before .before .before .before .before .before .count-at .ensures) (c .before .before .before .before .before .before .before .before .before .before .behind-targets .ensures) (c .before .before .before .before .before .before .before .before .before .payload-at .ensures) (put-at _ _ _ _ _ _ _ _ _ _ _ (c .before .before .before .before .before .before .before .emit-on .ensures)) ((c .before .before .before .on-jumps .ensures) _ _ _ _) (c .behind .ensures)
+returns c = λ k. on-of _ _ _ _ _ _ _ _ _ _ _ _ _ _ _ _ _ (c .before .before .before .before .before .before .before .before .before .before .before .before .before .before .before .before .before .before .before .compile-typed .ensures) (c .before .before .before .before .before .before .before .before .before .before .before .read-payload .ensures) (c .before .before .before .before .before .before .before .before .before .before .behind-targets .ensures) (c .before .before .before .before .before .before .before .before .before .payload-at .ensures) (put-at _ _ _ _ _ _ _ _ _ _ _ (c .before .before .before .before .before .before .before .emit-on .ensures)) ((c .before .before .before .on-jumps .ensures) _ _ _ _) (c .behind .ensures)
 
 pub compile-on-spec : {M : Type 1} → statement M
 compile-on-spec =
     tie.close
     (tie.spec
     compile-typed-requires
-    count-at-requires
+    read-payload-requires
     behind-targets-requires
     payload-at-requires
     emit-on-requires

@@ -6,7 +6,7 @@ use Prim.Native.Nat.{ℕ}
 use lib.ListN.{length}
 use Rattle.recorder.specs.Mem.{mem, memR}
 use Rattle.rules.specs.Stmt.{onJumps}
-use Rattle.jumps.specs.Parts.{onTargets}
+use Rattle.jumps.specs.Parts.{onTargetsAt}
 use Rattle.jumps.proofs.JumpLaws.{jumps-step, jumps-done}
 use Rattle.jumps.proofs.jump.on_jumps.Statement.{statement}
 use Rattle.jumps.proofs.jump.on_jumps.Tie as tie
@@ -19,7 +19,7 @@ use Rattle.recorder.proofs.word.range_at.Reads as range-at-reads
 
 abbrev Inv-loop : tie.InvT-loop
 Inv-loop sheet list₀ at n sub s₀ p₀ more₀ list s p more = (length list ≡ length list₀)
-    × ((t o b : List ℕ) (base : ℕ) → onJumps (memR t) t base sub (onTargets sheet more p) (mem list o b s) ≡ onJumps (memR t) t base sub (onTargets sheet n at) (mem list₀ o b s₀))
+    × ((t o b : List ℕ) (base : ℕ) → onJumps (memR t) t base sub (onTargetsAt sheet more p) (mem list o b s) ≡ onJumps (memR t) t base sub (onTargetsAt sheet n at) (mem list₀ o b s₀))
 
 abbrev μ-loop : tie.MeasureT-loop
 μ-loop sheet list₀ at n sub s₀ p₀ more₀ list s p more = more

@@ -6,12 +6,12 @@ use Rattle.jumps.proofs.jump.target_at.Reads as reads
 use Rattle.jumps.proofs.jump.target_at.Lts as lts
 use Rattle.recorder.proofs.label.label_at.Reads as label-at-reads
 use Rattle.recorder.proofs.word.behind.Reads as behind-reads
-use Rattle.recorder.proofs.word.kind_at.Reads as kind-at-reads
 use Rattle.recorder.proofs.word.range_at.Reads as range-at-reads
+use Rattle.sheet.proofs.leaf.is_absent.Reads as is-absent-reads
 
 -- src/jump.rt:36:8
-kind-at-requires : tie.Need-kind-at-requires
-kind-at-requires c κs = search needs
+is-absent-requires : tie.Need-is-absent-requires
+is-absent-requires c κs = search needs
 
 -- src/jump.rt:39:13
 range-at-requires : tie.Need-range-at-requires
@@ -27,17 +27,17 @@ label-at-requires c κs = search needs
 
 -- src/jump.rt:33:1
 returns : tie.Need-returns
-returns c = target-absent (c .before .before .before .args .sheet .now) (c .before .before .before .args .at) _ (c .before .kind-at .ensures) (c .if1 .taken)
+returns c = target-absent (c .before .before .before .args .sheet .now) (c .before .before .before .args .at) _ (c .before .is-absent .ensures) (c .if1 .taken)
 
 -- src/jump.rt:33:1
 returns-2 : tie.Need-returns-2
-returns-2 c = target-given (c .before .before .before .before .before .before .args .sheet .now) (c .before .before .before .before .before .before .args .at) _ _ _ (c .label-at .result) (c .before .before .before .before .kind-at .ensures) (c .before .before .before .if1 .left) (c .before .before .range-at .ensures) (c .before .behind .ensures) (c .label-at .ensures)
+returns-2 c = target-given (c .before .before .before .before .before .before .args .sheet .now) (c .before .before .before .before .before .before .args .at) _ _ _ (c .label-at .result) (c .before .before .before .before .is-absent .ensures) (c .before .before .before .if1 .left) (c .before .before .range-at .ensures) (c .before .behind .ensures) (c .label-at .ensures)
 
 pub target-at-spec : {M : Type 1} → statement M
 target-at-spec =
     tie.close
     (tie.spec
-    kind-at-requires
+    is-absent-requires
     range-at-requires
     behind-requires
     label-at-requires

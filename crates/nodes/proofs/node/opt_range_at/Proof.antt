@@ -4,12 +4,12 @@ use Rattle.nodes.proofs.node.opt_range_at.Statement.{statement}
 use Rattle.nodes.proofs.node.opt_range_at.Tie as tie
 use Rattle.nodes.proofs.node.opt_range_at.Reads as reads
 use Rattle.nodes.proofs.node.opt_range_at.Lts as lts
-use Rattle.recorder.proofs.word.kind_at.Reads as kind-at-reads
 use Rattle.recorder.proofs.word.range_at.Reads as range-at-reads
+use Rattle.sheet.proofs.leaf.is_absent.Reads as is-absent-reads
 
 -- src/node.rt:38:8
-kind-at-requires : tie.Need-kind-at-requires
-kind-at-requires c κs = search needs
+is-absent-requires : tie.Need-is-absent-requires
+is-absent-requires c κs = search needs
 
 -- src/node.rt:41:25
 range-at-requires : tie.Need-range-at-requires
@@ -17,11 +17,11 @@ range-at-requires c κs = search needs
 
 -- src/node.rt:35:1
 returns : tie.Need-returns
-returns c = opt-absent (c .before .before .before .args .sheet .now) (c .before .before .before .args .at) _ (c .before .kind-at .ensures) (c .if1 .taken)
+returns c = opt-absent (c .before .before .before .args .sheet .now) (c .before .before .before .args .at) _ (c .before .is-absent .ensures) (c .if1 .taken)
 
 -- src/node.rt:35:1
 returns-2 : tie.Need-returns-2
-returns-2 c = opt-given (c .before .before .before .before .args .sheet .now) (c .before .before .before .before .args .at) _ _ (c .before .before .kind-at .ensures) (c .before .if1 .left) (c .range-at .ensures)
+returns-2 c = opt-given (c .before .before .before .before .args .sheet .now) (c .before .before .before .before .args .at) _ _ (c .before .before .is-absent .ensures) (c .before .if1 .left) (c .range-at .ensures)
 
 pub opt-range-at-spec : {M : Type 1} → statement M
-opt-range-at-spec = tie.close (tie.spec kind-at-requires range-at-requires returns returns-2)
+opt-range-at-spec = tie.close (tie.spec is-absent-requires range-at-requires returns returns-2)

@@ -6,12 +6,12 @@ use Rattle.operations.proofs.draw.compile_draw_stmt.Tie as tie
 use Rattle.operations.proofs.draw.compile_draw_stmt.Reads as reads
 use Rattle.operations.proofs.draw.compile_draw_stmt.Lts as lts
 use Rattle.expressions.proofs.expr.compile_args.Reads as compile-args-reads
-use Rattle.expressions.proofs.expr.count_at.Reads as count-at-reads
+use Rattle.expressions.proofs.expr.read_payload.Reads as read-payload-reads
 use Rattle.operations.proofs.draw.draw_node.Reads as draw-node-reads
 
 -- src/draw.rt:56:9
-count-at-requires : tie.Need-count-at-requires
-count-at-requires c κs = search needs
+read-payload-requires : tie.Need-read-payload-requires
+read-payload-requires c κs = search needs
 
 -- src/draw.rt:57:9
 compile-args-requires : tie.Need-compile-args-requires
@@ -35,13 +35,13 @@ same-length-3 c = (c .before .before .before .before .before .before .before .be
 
 -- src/draw.rt:41:1
 returns : tie.Need-returns
-returns c = draw-of _ _ _ _ _ _ _ _ _ _ _ _ _ (c .before .before .before .before .before .before .before .before .before .before .before .before .before .before .before .before .before .before .count-at .ensures) (c .before .before .before .before .before .before .before .before .before .before .before .before .before .before .compile-args .ensures) ((c .before .before .before .before .draw-node .ensures) _ _ _)
+returns c = draw-of _ _ _ _ _ _ _ _ _ _ _ _ _ (c .before .before .before .before .before .before .before .before .before .before .before .before .before .before .before .before .before .before .read-payload .ensures) (c .before .before .before .before .before .before .before .before .before .before .before .before .before .before .compile-args .ensures) ((c .before .before .before .before .draw-node .ensures) _ _ _)
 
 pub compile-draw-stmt-spec : {M : Type 1} → statement M
 compile-draw-stmt-spec =
     tie.close
     (tie.spec
-    count-at-requires
+    read-payload-requires
     compile-args-requires
     draw-node-requires
     same-length

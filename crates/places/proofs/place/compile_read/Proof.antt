@@ -5,12 +5,12 @@ use Rattle.places.proofs.place.compile_read.Statement.{statement}
 use Rattle.places.proofs.place.compile_read.Tie as tie
 use Rattle.places.proofs.place.compile_read.Reads as reads
 use Rattle.places.proofs.place.compile_read.Lts as lts
-use Rattle.expressions.proofs.expr.count_at.Reads as count-at-reads
+use Rattle.expressions.proofs.expr.read_payload.Reads as read-payload-reads
 use Rattle.places.proofs.place.read_each.Reads as read-each-reads
 
 -- src/place.rt:233:9
-count-at-requires : tie.Need-count-at-requires
-count-at-requires c κs = search needs
+read-payload-requires : tie.Need-read-payload-requires
+read-payload-requires c κs = search needs
 
 -- src/place.rt:234:5
 read-each-requires : tie.Need-read-each-requires
@@ -30,9 +30,9 @@ same-length-3 c = (c .before .before .before .before .before .before .read-each 
 
 -- src/place.rt:219:1
 returns : tie.Need-returns
-returns c = λ k. read-of _ _ _ _ _ _ _ _ _ _ _ _ (c .before .before .before .before .before .before .before .before .before .before .count-at .ensures) (c .before .before .before .before .before .before .read-each .ensures)
+returns c = λ k. read-of _ _ _ _ _ _ _ _ _ _ _ _ (c .before .before .before .before .before .before .before .before .before .before .read-payload .ensures) (c .before .before .before .before .before .before .read-each .ensures)
 
 pub compile-read-spec : {M : Type 1} → statement M
 compile-read-spec =
     tie.close
-    (tie.spec count-at-requires read-each-requires same-length same-length-2 same-length-3 returns)
+    (tie.spec read-payload-requires read-each-requires same-length same-length-2 same-length-3 returns)

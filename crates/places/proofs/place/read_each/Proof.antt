@@ -15,7 +15,7 @@ use Rattle.places.proofs.place.read_each.Tie as tie
 use Rattle.places.proofs.place.read_each.Reads as reads
 use Rattle.places.proofs.place.read_each.Lts as lts
 use Rattle.expressions.proofs.expr.compile_lvalue.Reads as compile-lvalue-reads
-use Rattle.expressions.proofs.expr.expr_range.Reads as expr-range-reads
+use Rattle.expressions.proofs.expr.node_range.Reads as node-range-reads
 use Rattle.recorder.proofs.codegen.emit_read.Reads as emit-read-reads
 
 abbrev Inv-loop : tie.InvT-loop
@@ -35,8 +35,8 @@ compile-lvalue-requires : tie.Need-compile-lvalue-requires Inv-loop μ-loop
 compile-lvalue-requires c κs = search needs
 
 -- src/place.rt:211:13
-expr-range-requires : tie.Need-expr-range-requires Inv-loop μ-loop
-expr-range-requires c κs = search needs
+node-range-requires : tie.Need-node-range-requires Inv-loop μ-loop
+node-range-requires c κs = search needs
 
 -- src/place.rt:212:9
 emit-read-requires : tie.Need-emit-read-requires Inv-loop μ-loop
@@ -52,7 +52,7 @@ loop-less c = omega arith
 
 -- src/place.rt:208:5
 loop-again : tie.Need-loop-again Inv-loop μ-loop
-loop-again c = ((c .before .before .emit-read .kept .0) ∙ (c .before .before .before .before .before .before .before .before .before .before .before .before .compile-lvalue .kept .1 .1 .0) ∙ (c .before .before .before .before .before .before .before .before .before .before .before .before .before .before .before .before .before .loop .inv .0), (c .before .before .before .before .before .before .before .before .before .before .before .before .compile-lvalue .kept .1 .1 .1 .0) ∙ (c .before .before .before .before .before .before .before .before .before .before .before .before .before .before .before .before .before .loop .inv .1), (c .before .before .before .before .before .before .before .before .before .before .before .before .compile-lvalue .kept .1 .1 .1 .1 .0) ∙ (c .before .before .before .before .before .before .before .before .before .before .before .before .before .before .before .before .before .loop .inv .2), read-place _ _ _ _ _ _ _ _ _ _ (c .before .before .before .before .before .before .before .before .before .before .before .before .before .before .before .before .loop-test .taken) (c .before .before .before .before .before .before .before .before .before .before .before .before .compile-lvalue .ensures) ∙ (c .before .before .before .before .before .before .before .before .before .before .before .before .before .before .before .before .before .loop .inv .3), read-step _ _ _ _ _ _ _ _ _ _ _ _ (c .before .before .before .before .before .before .before .before .before .before .before .before .before .before .before .before .loop-test .taken) (c .before .before .before .before .before .before .before .before .before .before .before .before .compile-lvalue .ensures) (c .before .before .before .before .expr-range .ensures) (put-at _ _ _ _ _ _ _ _ _ _ _ (c .before .before .emit-read .ensures)) ∙ (c .before .before .before .before .before .before .before .before .before .before .before .before .before .before .before .before .before .loop .inv .4))
+loop-again c = ((c .before .before .emit-read .kept .0) ∙ (c .before .before .before .before .before .before .before .before .before .before .before .before .compile-lvalue .kept .1 .1 .0) ∙ (c .before .before .before .before .before .before .before .before .before .before .before .before .before .before .before .before .before .loop .inv .0), (c .before .before .before .before .before .before .before .before .before .before .before .before .compile-lvalue .kept .1 .1 .1 .0) ∙ (c .before .before .before .before .before .before .before .before .before .before .before .before .before .before .before .before .before .loop .inv .1), (c .before .before .before .before .before .before .before .before .before .before .before .before .compile-lvalue .kept .1 .1 .1 .1 .0) ∙ (c .before .before .before .before .before .before .before .before .before .before .before .before .before .before .before .before .before .loop .inv .2), read-place _ _ _ _ _ _ _ _ _ _ (c .before .before .before .before .before .before .before .before .before .before .before .before .before .before .before .before .loop-test .taken) (c .before .before .before .before .before .before .before .before .before .before .before .before .compile-lvalue .ensures) ∙ (c .before .before .before .before .before .before .before .before .before .before .before .before .before .before .before .before .before .loop .inv .3), read-step _ _ _ _ _ _ _ _ _ _ _ _ (c .before .before .before .before .before .before .before .before .before .before .before .before .before .before .before .before .loop-test .taken) (c .before .before .before .before .before .before .before .before .before .before .before .before .compile-lvalue .ensures) (c .before .before .before .before .node-range .ensures) (put-at _ _ _ _ _ _ _ _ _ _ _ (c .before .before .emit-read .ensures)) ∙ (c .before .before .before .before .before .before .before .before .before .before .before .before .before .before .before .before .before .loop .inv .4))
 
 -- src/place.rt:191:1
 same-length : tie.Need-same-length Inv-loop μ-loop
@@ -78,7 +78,7 @@ read-each-spec =
     μ-loop
     loop-holds
     compile-lvalue-requires
-    expr-range-requires
+    node-range-requires
     emit-read-requires
     sub-more
     loop-less

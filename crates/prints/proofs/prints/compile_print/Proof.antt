@@ -7,8 +7,8 @@ use Rattle.prints.proofs.prints.compile_print.Tie as tie
 use Rattle.prints.proofs.prints.compile_print.Reads as reads
 use Rattle.prints.proofs.prints.compile_print.Lts as lts
 
-count-at-requires : tie.Need-count-at-requires
-count-at-requires c κs = search needs
+read-payload-requires : tie.Need-read-payload-requires
+read-payload-requires c κs = search needs
 
 print-each-requires : tie.Need-print-each-requires
 print-each-requires c κs = search needs
@@ -29,13 +29,13 @@ same-length-3 : tie.Need-same-length-3
 same-length-3 c = (c .before .before .before .before .before .before .before .before .before .before .before .before .before .before .before .print-each .kept .1 .1 .1 .1 .0)
 
 returns : tie.Need-returns
-returns c = print-of _ _ _ _ _ _ _ _ _ _ _ _ _ _ (c .before .before .before .before .before .before .before .before .before .before .before .before .before .before .before .before .before .before .before .count-at .ensures) (c .before .before .before .before .before .before .before .before .before .before .before .before .before .before .before .print-each .ensures) ((c .before .before .before .before .before .before .empty-line .ensures) (c .before .before .before .before .before .before .before .before .before .before .before .before .before .before .before .before .before .before .before .before .before .before .before .before .before .args .text .now) _ _) (put-at _ _ _ _ _ _ _ _ _ _ _ (c .before .before .emit-flush .ensures))
+returns c = print-of _ _ _ _ _ _ _ _ _ _ _ _ _ _ (c .before .before .before .before .before .before .before .before .before .before .before .before .before .before .before .before .before .before .before .read-payload .ensures) (c .before .before .before .before .before .before .before .before .before .before .before .before .before .before .before .print-each .ensures) ((c .before .before .before .before .before .before .empty-line .ensures) (c .before .before .before .before .before .before .before .before .before .before .before .before .before .before .before .before .before .before .before .before .before .before .before .before .before .args .text .now) _ _) (put-at _ _ _ _ _ _ _ _ _ _ _ (c .before .before .emit-flush .ensures))
 
 pub compile-print-spec : {M : Type 1} → statement M
 compile-print-spec =
     tie.close
     (tie.spec
-    count-at-requires
+    read-payload-requires
     print-each-requires
     empty-line-requires
     emit-flush-requires

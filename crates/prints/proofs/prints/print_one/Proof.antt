@@ -35,16 +35,16 @@ same-length-3 : tie.Need-same-length-3
 same-length-3 c = search needs
 
 returns : tie.Need-returns
-returns c = one-value _ _ _ _ _ _ _ _ _ _ _ _ (record { count = (c .before .before .before .before .before .before .before .before .before .before .before .before .before .payload-at .ensures); place = (c .before .before .before .before .before .before .before .before .before .before .before .before .behind .ensures) }) (c .before .before .before .before .before .before .before .before .before .before .match .keys1) (c .before .before .before .before .before .before .print-value .ensures)
+returns c = one-value _ _ _ _ _ _ _ _ _ _ _ _ (record { value = (c .before .before .before .before .before .before .before .before .before .before .before .before .before .payload-at .ensures); place = (c .before .before .before .before .before .before .before .before .before .before .before .before .behind .ensures) }) (c .before .before .before .before .before .before .before .before .before .before .match .keys1) (c .before .before .before .before .before .before .print-value .ensures)
 
 same-length-4 : tie.Need-same-length-4
 same-length-4 c = search needs
 
 returns-2 : tie.Need-returns-2
-returns-2 c = one-comma _ _ _ _ _ _ _ _ _ _ _ _ _ (record { count = (c .before .before .before .before .before .before .before .before .payload-at .ensures); place = (c .before .before .before .before .before .before .before .behind .ensures) }) (c .before .before .before .before .before .match .keys2) (c .before .before .before .before .range-at .ensures) (put-at _ _ _ _ _ _ _ _ _ _ _ (c .before .before .emit-newline .ensures)) (c .before .before .before .before .before .before .behind2 .ensures)
+returns-2 c = one-comma _ _ _ _ _ _ _ _ _ _ _ _ _ (record { value = (c .before .before .before .before .before .before .before .before .payload-at .ensures); place = (c .before .before .before .before .before .before .before .behind .ensures) }) (c .before .before .before .before .before .match .keys2) (c .before .before .before .before .range-at .ensures) (put-at _ _ _ _ _ _ _ _ _ _ _ (c .before .before .emit-newline .ensures)) (c .before .before .before .before .before .before .behind2 .ensures)
 
 returns-3 : tie.Need-returns-3
-returns-3 c = let q = (c .match .rest) in one-semicolon _ _ _ _ _ _ _ _ _ _ _ (record { count = (c .before .before .before .payload-at .ensures); place = (c .before .before .behind .ensures) }) (q .0 .1) (q .1) (c .before .behind2 .ensures)
+returns-3 c = let q = (c .match .rest) in one-semicolon _ _ _ _ _ _ _ _ _ _ _ (record { value = (c .before .before .before .payload-at .ensures); place = (c .before .before .behind .ensures) }) (q .0 .1) (q .1) (c .before .behind2 .ensures)
 
 pub print-one-spec : {M : Type 1} → statement M
 print-one-spec =

@@ -9,11 +9,11 @@ use Rattle.prints.proofs.prints.tab_call.Lts as lts
 behind-requires : tie.Need-behind-requires
 behind-requires c κs = search needs
 
-count-at-requires : tie.Need-count-at-requires
-count-at-requires c κs = search needs
+read-payload-requires : tie.Need-read-payload-requires
+read-payload-requires c κs = search needs
 
-count-at-requires-2 : tie.Need-count-at-requires-2
-count-at-requires-2 c κs = search needs
+read-payload-requires-2 : tie.Need-read-payload-requires-2
+read-payload-requires-2 c κs = search needs
 
 surplus-notes-requires : tie.Need-surplus-notes-requires
 surplus-notes-requires c κs = search needs
@@ -34,15 +34,15 @@ same-length-3 : tie.Need-same-length-3
 same-length-3 c = (c .before .before .before .before .before .before .before .before .before .before .before .compile-args .kept .1 .1 .1 .1 .0)
 
 returns : tie.Need-returns
-returns c = tab-of _ _ _ _ _ _ _ _ _ _ _ _ _ _ _ _ (c .before .before .before .before .before .before .before .before .before .before .before .before .before .before .before .before .before .before .before .before .before .behind .ensures) (c .before .before .before .before .before .before .before .before .before .before .before .before .before .before .before .before .before .before .before .before .count-at .ensures) (c .before .before .before .before .before .before .before .before .before .before .before .before .before .before .before .before .before .before .before .count-at2 .ensures) ((c .before .before .before .before .before .before .before .before .before .before .before .before .before .before .before .before .before .surplus-notes .ensures) _ _ _ _) (c .before .before .before .before .before .before .before .before .before .before .before .compile-args .ensures) ((c .before .before .tab-emit .ensures) (c .before .before .before .before .before .before .before .before .before .before .before .before .before .before .before .before .before .before .before .before .before .before .before .before .before .before .before .args .text .now) _ _)
+returns c = tab-of _ _ _ _ _ _ _ _ _ _ _ _ _ _ _ _ (c .before .before .before .before .before .before .before .before .before .before .before .before .before .before .before .before .before .before .before .before .before .behind .ensures) (c .before .before .before .before .before .before .before .before .before .before .before .before .before .before .before .before .before .before .before .before .read-payload .ensures) (c .before .before .before .before .before .before .before .before .before .before .before .before .before .before .before .before .before .before .before .read-payload2 .ensures) ((c .before .before .before .before .before .before .before .before .before .before .before .before .before .before .before .before .before .surplus-notes .ensures) _ _ _ _) (c .before .before .before .before .before .before .before .before .before .before .before .compile-args .ensures) ((c .before .before .tab-emit .ensures) (c .before .before .before .before .before .before .before .before .before .before .before .before .before .before .before .before .before .before .before .before .before .before .before .before .before .before .before .args .text .now) _ _)
 
 pub tab-call-spec : {M : Type 1} → statement M
 tab-call-spec =
     tie.close
     (tie.spec
     behind-requires
-    count-at-requires
-    count-at-requires-2
+    read-payload-requires
+    read-payload-requires-2
     surplus-notes-requires
     compile-args-requires
     tab-emit-requires

@@ -28,11 +28,11 @@ loop-holds c = (refl, refl, refl, refl, refl)
 compile-expr-requires : tie.Need-compile-expr-requires Inv-loop μ-loop
 compile-expr-requires c κs = search needs
 
-count-at-requires : tie.Need-count-at-requires Inv-loop μ-loop
-count-at-requires c κs = search needs
+read-payload-requires : tie.Need-read-payload-requires Inv-loop μ-loop
+read-payload-requires c κs = search needs
 
-expr-range-requires : tie.Need-expr-range-requires Inv-loop μ-loop
-expr-range-requires c κs = search needs
+node-range-requires : tie.Need-node-range-requires Inv-loop μ-loop
+node-range-requires c κs = search needs
 
 write-value-requires : tie.Need-write-value-requires Inv-loop μ-loop
 write-value-requires c κs = search needs
@@ -44,7 +44,7 @@ loop-less : tie.Need-loop-less Inv-loop μ-loop
 loop-less c = omega (arith, (c .before .before .before .before .before .before .before .before .before .before .before .before .before .before .before .before .before .before .before .before .loop-test .taken))
 
 loop-again : tie.Need-loop-again Inv-loop μ-loop
-loop-again c = ((c .before .before .before .before .write-value .kept .0) ∙ (c .before .before .before .before .before .before .before .before .before .before .before .before .before .before .before .before .compile-expr .kept .1 .1 .0) ∙ (c .before .before .before .before .before .before .before .before .before .before .before .before .before .before .before .before .before .before .before .before .before .loop .inv .0), (c .before .before .before .before .write-value .kept .1 .0) ∙ (c .before .before .before .before .before .before .before .before .before .before .before .before .before .before .before .before .compile-expr .kept .1 .1 .1 .0) ∙ (c .before .before .before .before .before .before .before .before .before .before .before .before .before .before .before .before .before .before .before .before .before .loop .inv .1), (c .before .before .before .before .before .before .before .before .before .before .before .before .before .before .before .before .compile-expr .kept .1 .1 .1 .1 .0) ∙ (c .before .before .before .before .before .before .before .before .before .before .before .before .before .before .before .before .before .before .before .before .before .loop .inv .2), write-place _ _ _ _ _ _ _ _ _ _ _ _ (c .before .before .before .before .before .before .before .before .before .before .before .before .before .before .before .before .before .before .before .before .loop-test .taken) (c .before .before .before .before .before .before .before .before .before .before .before .before .before .before .before .before .compile-expr .ensures) (c .before .before .before .before .before .before .before .before .count-at .ensures) ∙ (c .before .before .before .before .before .before .before .before .before .before .before .before .before .before .before .before .before .before .before .before .before .loop .inv .3), write-step _ _ _ _ _ _ _ _ _ _ _ _ _ _ _ (c .before .before .before .before .before .before .before .before .before .before .before .before .before .before .before .before .before .before .before .before .loop-test .taken) (c .before .before .before .before .before .before .before .before .before .before .before .before .before .before .before .before .compile-expr .ensures) (c .before .before .before .before .before .before .before .before .count-at .ensures) (c .before .before .before .before .before .before .before .expr-range .ensures) ((c .before .before .before .before .write-value .ensures) _ _ _) ∙ (c .before .before .before .before .before .before .before .before .before .before .before .before .before .before .before .before .before .before .before .before .before .loop .inv .4))
+loop-again c = ((c .before .before .before .before .write-value .kept .0) ∙ (c .before .before .before .before .before .before .before .before .before .before .before .before .before .before .before .before .compile-expr .kept .1 .1 .0) ∙ (c .before .before .before .before .before .before .before .before .before .before .before .before .before .before .before .before .before .before .before .before .before .loop .inv .0), (c .before .before .before .before .write-value .kept .1 .0) ∙ (c .before .before .before .before .before .before .before .before .before .before .before .before .before .before .before .before .compile-expr .kept .1 .1 .1 .0) ∙ (c .before .before .before .before .before .before .before .before .before .before .before .before .before .before .before .before .before .before .before .before .before .loop .inv .1), (c .before .before .before .before .before .before .before .before .before .before .before .before .before .before .before .before .compile-expr .kept .1 .1 .1 .1 .0) ∙ (c .before .before .before .before .before .before .before .before .before .before .before .before .before .before .before .before .before .before .before .before .before .loop .inv .2), write-place _ _ _ _ _ _ _ _ _ _ _ _ (c .before .before .before .before .before .before .before .before .before .before .before .before .before .before .before .before .before .before .before .before .loop-test .taken) (c .before .before .before .before .before .before .before .before .before .before .before .before .before .before .before .before .compile-expr .ensures) (c .before .before .before .before .before .before .before .before .read-payload .ensures) ∙ (c .before .before .before .before .before .before .before .before .before .before .before .before .before .before .before .before .before .before .before .before .before .loop .inv .3), write-step _ _ _ _ _ _ _ _ _ _ _ _ _ _ _ (c .before .before .before .before .before .before .before .before .before .before .before .before .before .before .before .before .before .before .before .before .loop-test .taken) (c .before .before .before .before .before .before .before .before .before .before .before .before .before .before .before .before .compile-expr .ensures) (c .before .before .before .before .before .before .before .before .read-payload .ensures) (c .before .before .before .before .before .before .before .node-range .ensures) ((c .before .before .before .before .write-value .ensures) _ _ _) ∙ (c .before .before .before .before .before .before .before .before .before .before .before .before .before .before .before .before .before .before .before .before .before .loop .inv .4))
 
 same-length : tie.Need-same-length Inv-loop μ-loop
 same-length c = (c .before .loop .inv .0)
@@ -66,8 +66,8 @@ write-each-spec =
     μ-loop
     loop-holds
     compile-expr-requires
-    count-at-requires
-    expr-range-requires
+    read-payload-requires
+    node-range-requires
     write-value-requires
     sub-more
     loop-less

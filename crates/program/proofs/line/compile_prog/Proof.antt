@@ -1,9 +1,8 @@
 use borrow.Author.Needs.{needs}
 use native.Mathlib.Omega.{arith}
 use mathlib.Core.Path.{_≡_, refl, _∙_}
-use Prim.Native.Nat.{_-_, _*_, _≤_}
-use lib.ListN.{length, replicate}
-use Rattle.recorder.specs.Word.{payloadAt}
+use Prim.Native.Nat.{_-_}
+use lib.ListN.{length}
 use Rattle.recorder.specs.Mem.{mem}
 use Rattle.program.proofs.LineLaws.{Going, going-start, going-on, going-done}
 use Rattle.program.proofs.line.compile_prog.Statement.{statement}
@@ -16,64 +15,64 @@ use Rattle.recorder.proofs.word.payload_at.Reads as payload-at-reads
 
 abbrev Inv-loop : tie.InvT-loop
 Inv-loop sheet text list₀ notes₀ book₀ work₀ count at c₀ line₀ list notes book work c line = (length list ≡ length list₀) × (length notes ≡ length notes₀) × (length book ≡ length book₀) × (length work ≡ length work₀)
-    × (work₀ ≡ replicate (length work₀) 0 → 3 * payloadAt sheet 0 ≤ length work₀ → Going sheet text count line c (mem list₀ notes₀ book₀ (c₀ .st)) (mem list notes book (c .st)) work)
+    × Going sheet text count line c (mem list₀ notes₀ book₀ (c₀ .st)) (mem list notes book (c .st)) work₀ work
 
 abbrev μ-loop : tie.MeasureT-loop
 μ-loop sheet text list₀ notes₀ book₀ work₀ count at c₀ line₀ list notes book work c line = count - line
 
--- src/line.rt:122:9
+-- src/line.rt:120:9
 payload-at-requires : tie.Need-payload-at-requires Inv-loop μ-loop
 payload-at-requires c κs = search needs
 
--- src/line.rt:123:9
+-- src/line.rt:121:9
 behind-requires : tie.Need-behind-requires Inv-loop μ-loop
 behind-requires c κs = search needs
 
--- src/line.rt:133:5
+-- src/line.rt:131:5
 loop-holds : tie.Need-loop-holds Inv-loop μ-loop
-loop-holds c = (refl, refl, refl, refl, λ z h. going-start _ (c .before .before .before .before .before .before .before .before .args .text .now) _ _ _ _ _ _ _ (c .before .payload-at .ensures) (c .behind .ensures) z h)
+loop-holds c = (refl, refl, refl, refl, going-start _ (c .before .before .before .before .before .before .before .before .args .text .now) _ _ _ _ _ _ _ (c .before .payload-at .ensures) (c .behind .ensures))
 
--- src/line.rt:134:9
+-- src/line.rt:132:9
 compile-line-requires : tie.Need-compile-line-requires Inv-loop μ-loop
 compile-line-requires c κs = search needs
 
--- src/line.rt:135:9
+-- src/line.rt:133:9
 add-line : tie.Need-add-line Inv-loop μ-loop
 add-line c = omega arith
 
--- src/line.rt:133:5
+-- src/line.rt:131:5
 loop-less : tie.Need-loop-less Inv-loop μ-loop
 loop-less c = omega arith
 
--- src/line.rt:133:5
+-- src/line.rt:131:5
 loop-again : tie.Need-loop-again Inv-loop μ-loop
 loop-again c = (
   (c .before .before .before .before .before .before .before .before .compile-line .kept .1 .1 .0) ∙ (c .before .before .before .before .before .before .before .before .before .before .before .before .before .before .loop .inv .0),
   (c .before .before .before .before .before .before .before .before .compile-line .kept .1 .1 .1 .0) ∙ (c .before .before .before .before .before .before .before .before .before .before .before .before .before .before .loop .inv .1),
   (c .before .before .before .before .before .before .before .before .compile-line .kept .1 .1 .1 .1 .0) ∙ (c .before .before .before .before .before .before .before .before .before .before .before .before .before .before .loop .inv .2),
   (c .before .before .before .before .before .before .before .before .compile-line .kept .1 .1 .1 .1 .1 .0) ∙ (c .before .before .before .before .before .before .before .before .before .before .before .before .before .before .loop .inv .3),
-  λ z h. going-on _ _ _ _ _ _ _ _ _ _ _ (c .before .before .before .before .before .before .before .before .before .before .before .before .before .loop-test .taken) (c .before .before .before .before .before .before .before .before .compile-line .ensures) (c .before .before .before .before .before .before .before .before .compile-line .kept .1 .1 .1 .1 .1 .0) ((c .before .before .before .before .before .before .before .before .before .before .before .before .before .before .loop .inv .4) z h),
+  going-on _ _ _ _ _ _ _ _ _ _ _ _ (c .before .before .before .before .before .before .before .before .before .before .before .before .before .loop-test .taken) (c .before .before .before .before .before .before .before .before .compile-line .ensures) (c .before .before .before .before .before .before .before .before .compile-line .kept .1 .1 .1 .1 .1 .0) (c .before .before .before .before .before .before .before .before .before .before .before .before .before .before .loop .inv .4),
 )
 
--- src/line.rt:111:1
+-- src/line.rt:109:1
 same-length : tie.Need-same-length Inv-loop μ-loop
 same-length c = (c .before .before .loop .inv .0)
 
--- src/line.rt:111:1
+-- src/line.rt:109:1
 same-length-2 : tie.Need-same-length-2 Inv-loop μ-loop
 same-length-2 c = (c .before .before .loop .inv .1)
 
--- src/line.rt:111:1
+-- src/line.rt:109:1
 same-length-3 : tie.Need-same-length-3 Inv-loop μ-loop
 same-length-3 c = (c .before .before .loop .inv .2)
 
--- src/line.rt:111:1
+-- src/line.rt:109:1
 same-length-4 : tie.Need-same-length-4 Inv-loop μ-loop
 same-length-4 c = (c .before .before .loop .inv .3)
 
--- src/line.rt:111:1
+-- src/line.rt:109:1
 returns : tie.Need-returns Inv-loop μ-loop
-returns c = λ z h. going-done _ _ _ _ _ _ _ _ (c .before .loop-test .left) ((c .before .before .loop .inv .4) z h)
+returns c = going-done _ _ _ _ _ _ _ _ _ (c .before .loop-test .left) (c .before .before .loop .inv .4)
 
 pub compile-prog-spec : {M : Type 1} → statement M
 compile-prog-spec =

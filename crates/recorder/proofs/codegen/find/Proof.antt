@@ -18,43 +18,43 @@ Inv-loop text book start len sigil from entries k₀ left₀ k left = (lookup te
 abbrev μ-loop : tie.MeasureT-loop
 μ-loop text book start len sigil from entries k₀ left₀ k left = left
 
--- src/codegen.rt:440:25
+-- src/codegen.rt:457:25
 least-requires : tie.Need-least-requires Inv-loop μ-loop
 least-requires c κs = search needs
 
--- src/codegen.rt:440:9
+-- src/codegen.rt:457:9
 less-requires : tie.Need-less-requires Inv-loop μ-loop
 less-requires c κs = search needs
 
--- src/codegen.rt:441:5
+-- src/codegen.rt:458:5
 loop-holds : tie.Need-loop-holds Inv-loop μ-loop
 loop-holds c = (refl, refl)
 
--- src/codegen.rt:442:9
+-- src/codegen.rt:459:9
 sub-left : tie.Need-sub-left Inv-loop μ-loop
 sub-left c = omega arith
 
--- src/codegen.rt:443:12
+-- src/codegen.rt:460:12
 named-at-requires : tie.Need-named-at-requires Inv-loop μ-loop
 named-at-requires c κs = search needs
 
--- src/codegen.rt:444:13
+-- src/codegen.rt:461:13
 returns : tie.Need-returns Inv-loop μ-loop
 returns c = found-from _ _ _ _ _ _ _ _ _ _ (c .before .before .before .before .before .least .ensures) (c .before .before .before .before .less .ensures) (find-stop _ _ _ _ _ _ _ _ _ (c .before .before .loop-test .taken) (c .before .before .before .loop .inv .0) (c .before .named-at .ensures) (c .if1 .taken))
 
--- src/codegen.rt:446:9
+-- src/codegen.rt:463:9
 add-k : tie.Need-add-k Inv-loop μ-loop
 add-k c = omega arith
 
--- src/codegen.rt:441:5
+-- src/codegen.rt:458:5
 loop-less : tie.Need-loop-less Inv-loop μ-loop
 loop-less c = omega arith
 
--- src/codegen.rt:441:5
+-- src/codegen.rt:458:5
 loop-again : tie.Need-loop-again Inv-loop μ-loop
 loop-again c = (find-step _ _ _ _ _ _ _ _ _ (c .before .before .loop-test .taken) (c .before .before .before .loop .inv .0) (c .before .named-at .ensures) (c .if1 .left), omega arith)
 
--- src/codegen.rt:428:1
+-- src/codegen.rt:445:1
 returns-2 : tie.Need-returns-2 Inv-loop μ-loop
 returns-2 c = found-from _ _ _ _ _ _ _ _ _ _ (c .before .before .before .least .ensures) (c .before .before .less .ensures) (find-end _ _ _ _ _ _ _ _ (c .loop-test .left) (c .before .loop .inv .0))
 

@@ -7,110 +7,110 @@ use Rattle.recorder.proofs.codegen.put.Statement.{statement}
 use Rattle.recorder.proofs.codegen.put.Tie as tie
 use Rattle.recorder.proofs.codegen.put.Reads as reads
 use Rattle.recorder.proofs.codegen.put.Lts as lts
-use Rattle.recorder.proofs.codegen.list_room.Reads as list-room-reads
+use Rattle.recorder.proofs.codegen.most_records.Reads as most-records-reads
 use Rattle.recorder.proofs.codegen.with_records.Reads as with-records-reads
 use Rattle.recorder.proofs.word.range_word.Reads as range-word-reads
 use Rattle.recorder.proofs.word.word_of.Reads as word-of-reads
 
--- src/codegen.rt:230:9
+-- src/codegen.rt:268:9
 word-of-requires : tie.Need-word-of-requires
 word-of-requires c κs = search needs
 
--- src/codegen.rt:231:9
+-- src/codegen.rt:269:9
 range-word-requires : tie.Need-range-word-requires
 range-word-requires c κs = search needs
 
--- src/codegen.rt:232:12
-list-room-requires : tie.Need-list-room-requires
-list-room-requires c κs = search needs
+-- src/codegen.rt:270:12
+most-records-requires : tie.Need-most-records-requires
+most-records-requires c κs = search needs
 
--- src/codegen.rt:233:22
+-- src/codegen.rt:271:27
 cast-i : tie.Need-cast-i
 cast-i c = search needs
 
--- src/codegen.rt:233:17
+-- src/codegen.rt:271:17
 mul-i : tie.Need-mul-i
 mul-i c = search needs
 
--- src/codegen.rt:234:9
+-- src/codegen.rt:272:9
 mul-list : tie.Need-mul-list
 mul-list c = search needs
 
--- src/codegen.rt:234:9
+-- src/codegen.rt:272:9
 slice-write-list : tie.Need-slice-write-list
 slice-write-list c = search needs
 
--- src/codegen.rt:235:14
+-- src/codegen.rt:273:14
 add-list : tie.Need-add-list
 add-list c = search needs
 
--- src/codegen.rt:235:9
+-- src/codegen.rt:273:9
 mul-list-2 : tie.Need-mul-list-2
 mul-list-2 c = search needs
 
--- src/codegen.rt:235:9
+-- src/codegen.rt:273:9
 slice-write-list-2 : tie.Need-slice-write-list-2
 slice-write-list-2 c = simp length-set (omega arith)
 
--- src/codegen.rt:236:14
+-- src/codegen.rt:274:14
 add-list-2 : tie.Need-add-list-2
 add-list-2 c = search needs
 
--- src/codegen.rt:236:9
+-- src/codegen.rt:274:9
 mul-list-3 : tie.Need-mul-list-3
 mul-list-3 c = search needs
 
--- src/codegen.rt:236:9
+-- src/codegen.rt:274:9
 slice-write-list-3 : tie.Need-slice-write-list-3
 slice-write-list-3 c = simp length-set (omega arith)
 
--- src/codegen.rt:237:14
+-- src/codegen.rt:275:14
 add-list-3 : tie.Need-add-list-3
 add-list-3 c = search needs
 
--- src/codegen.rt:237:9
+-- src/codegen.rt:275:9
 mul-list-4 : tie.Need-mul-list-4
 mul-list-4 c = search needs
 
--- src/codegen.rt:237:9
+-- src/codegen.rt:275:9
 slice-write-list-4 : tie.Need-slice-write-list-4
 slice-write-list-4 c = simp length-set (omega arith)
 
--- src/codegen.rt:238:14
+-- src/codegen.rt:276:14
 add-list-4 : tie.Need-add-list-4
 add-list-4 c = search needs
 
--- src/codegen.rt:238:9
+-- src/codegen.rt:276:9
 mul-list-5 : tie.Need-mul-list-5
 mul-list-5 c = search needs
 
--- src/codegen.rt:238:9
+-- src/codegen.rt:276:9
 slice-write-list-5 : tie.Need-slice-write-list-5
 slice-write-list-5 c = simp length-set (omega arith)
 
--- src/codegen.rt:239:26
+-- src/codegen.rt:277:26
 add-with-records : tie.Need-add-with-records
 add-with-records c = search needs
 
--- src/codegen.rt:239:9
+-- src/codegen.rt:277:9
 with-records-requires : tie.Need-with-records-requires
 with-records-requires c κs = search needs
 
--- src/codegen.rt:241:9
+-- src/codegen.rt:279:9
 with-records-requires-2 : tie.Need-with-records-requires-2
 with-records-requires-2 c κs = search needs
 
--- src/codegen.rt:225:1
+-- src/codegen.rt:263:1
 same-length : tie.Need-same-length
 same-length c = simp length-set
 
--- src/codegen.rt:225:1
+-- src/codegen.rt:263:1
 returns : tie.Need-returns
-returns c = put-in _ _ _ _ _ _ _ _ _ _ _ (c .before .before .before .before .word-of .ensures) (c .before .before .before .range-word .ensures) (c .before .before .list-room .ensures) (c .before .if1 .taken) (c .with-records .ensures)
+returns c = put-in _ _ _ _ _ _ _ _ _ _ _ (c .before .before .before .before .word-of .ensures) (c .before .before .before .range-word .ensures) (c .before .before .most-records .ensures) (c .before .if1 .taken) (c .with-records .ensures)
 
--- src/codegen.rt:225:1
+-- src/codegen.rt:263:1
 returns-2 : tie.Need-returns-2
-returns-2 c = put-out _ _ _ _ _ _ _ _ _ (c .before .before .list-room .ensures) (c .before .if1 .left) (c .with-records2 .ensures)
+returns-2 c = put-out _ _ _ _ _ _ _ _ _ (c .before .before .most-records .ensures) (c .before .if1 .left) (c .with-records2 .ensures)
 
 pub put-spec : {M : Type 1} → statement M
 put-spec =
@@ -118,7 +118,7 @@ put-spec =
     (tie.spec
     word-of-requires
     range-word-requires
-    list-room-requires
+    most-records-requires
     cast-i
     mul-i
     mul-list

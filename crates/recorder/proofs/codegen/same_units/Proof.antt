@@ -6,7 +6,7 @@ use Rattle.recorder.proofs.codegen.same_units.Statement.{statement}
 use Rattle.recorder.proofs.codegen.same_units.Tie as tie
 use Rattle.recorder.proofs.codegen.same_units.Reads as reads
 use Rattle.recorder.proofs.codegen.same_units.Lts as lts
-use Rattle.recorder.proofs.codegen.raised.Reads as raised-reads
+use Rattle.recorder.proofs.codegen.to_ascii_uppercase.Reads as to-ascii-uppercase-reads
 use Rattle.recorder.proofs.word.behind_unit.Reads as behind-unit-reads
 use Rattle.recorder.proofs.word.unit_at.Reads as unit-at-reads
 
@@ -16,51 +16,51 @@ Inv-loop text a b n p₀ q₀ left₀ p q left = sameUnits text p q left ≡ sam
 abbrev μ-loop : tie.MeasureT-loop
 μ-loop text a b n p₀ q₀ left₀ p q left = left
 
--- src/codegen.rt:321:5
+-- src/codegen.rt:359:5
 loop-holds : tie.Need-loop-holds Inv-loop μ-loop
 loop-holds c = refl
 
--- src/codegen.rt:322:19
+-- src/codegen.rt:360:31
 unit-at-requires : tie.Need-unit-at-requires Inv-loop μ-loop
 unit-at-requires c κs = search needs
 
--- src/codegen.rt:322:12
-raised-requires : tie.Need-raised-requires Inv-loop μ-loop
-raised-requires c κs = search needs
+-- src/codegen.rt:360:12
+to-ascii-uppercase-requires : tie.Need-to-ascii-uppercase-requires Inv-loop μ-loop
+to-ascii-uppercase-requires c κs = search needs
 
--- src/codegen.rt:322:47
+-- src/codegen.rt:360:71
 unit-at-requires-2 : tie.Need-unit-at-requires-2 Inv-loop μ-loop
 unit-at-requires-2 c κs = search needs
 
--- src/codegen.rt:322:40
-raised-requires-2 : tie.Need-raised-requires-2 Inv-loop μ-loop
-raised-requires-2 c κs = search needs
+-- src/codegen.rt:360:52
+to-ascii-uppercase-requires-2 : tie.Need-to-ascii-uppercase-requires-2 Inv-loop μ-loop
+to-ascii-uppercase-requires-2 c κs = search needs
 
--- src/codegen.rt:323:13
+-- src/codegen.rt:361:13
 returns : tie.Need-returns Inv-loop μ-loop
-returns c = units-stop _ _ _ _ _ _ _ _ _ (c .before .before .before .before .before .loop-test .taken) (c .before .before .before .before .before .before .loop .inv) (c .before .before .before .before .unit-at .ensures) (c .before .before .unit-at2 .ensures) (c .before .before .before .raised .ensures) (c .before .raised2 .ensures) (c .if1 .taken)
+returns c = units-stop _ _ _ _ _ _ _ _ _ (c .before .before .before .before .before .loop-test .taken) (c .before .before .before .before .before .before .loop .inv) (c .before .before .before .before .unit-at .ensures) (c .before .before .unit-at2 .ensures) (c .before .before .before .to-ascii-uppercase .ensures) (c .before .to-ascii-uppercase2 .ensures) (c .if1 .taken)
 
--- src/codegen.rt:325:9
+-- src/codegen.rt:363:9
 behind-unit-requires : tie.Need-behind-unit-requires Inv-loop μ-loop
 behind-unit-requires c κs = search needs
 
--- src/codegen.rt:326:9
+-- src/codegen.rt:364:9
 behind-unit-requires-2 : tie.Need-behind-unit-requires-2 Inv-loop μ-loop
 behind-unit-requires-2 c κs = search needs
 
--- src/codegen.rt:327:9
+-- src/codegen.rt:365:9
 sub-left : tie.Need-sub-left Inv-loop μ-loop
 sub-left c = search needs
 
--- src/codegen.rt:321:5
+-- src/codegen.rt:359:5
 loop-less : tie.Need-loop-less Inv-loop μ-loop
 loop-less c = search needs
 
--- src/codegen.rt:321:5
+-- src/codegen.rt:359:5
 loop-again : tie.Need-loop-again Inv-loop μ-loop
-loop-again c = units-step _ _ _ _ _ _ _ _ _ _ _ (c .before .before .before .before .before .before .before .loop-test .taken) (c .before .before .before .before .before .before .before .before .loop .inv) (c .before .before .before .before .before .before .unit-at .ensures) (c .before .before .before .before .unit-at2 .ensures) (c .before .before .before .before .before .raised .ensures) (c .before .before .before .raised2 .ensures) (c .before .before .if1 .left) (c .before .behind-unit .ensures) (c .behind-unit2 .ensures)
+loop-again c = units-step _ _ _ _ _ _ _ _ _ _ _ (c .before .before .before .before .before .before .before .loop-test .taken) (c .before .before .before .before .before .before .before .before .loop .inv) (c .before .before .before .before .before .before .unit-at .ensures) (c .before .before .before .before .unit-at2 .ensures) (c .before .before .before .before .before .to-ascii-uppercase .ensures) (c .before .before .before .to-ascii-uppercase2 .ensures) (c .before .before .if1 .left) (c .before .behind-unit .ensures) (c .behind-unit2 .ensures)
 
--- src/codegen.rt:315:1
+-- src/codegen.rt:353:1
 returns-2 : tie.Need-returns-2 Inv-loop μ-loop
 returns-2 c = units-end _ _ _ _ _ (c .loop-test .left) (c .before .loop .inv)
 
@@ -72,9 +72,9 @@ same-units-spec =
     μ-loop
     loop-holds
     unit-at-requires
-    raised-requires
+    to-ascii-uppercase-requires
     unit-at-requires-2
-    raised-requires-2
+    to-ascii-uppercase-requires-2
     returns
     behind-unit-requires
     behind-unit-requires-2

@@ -6,11 +6,11 @@ use Rattle.resolution.proofs.resolve.miss.Reads as reads
 use Rattle.resolution.proofs.resolve.miss.Lts as lts
 use Rattle.resolution.proofs.resolve.unpacked.Reads as unpacked-reads
 use Rattle.recorder.proofs.codegen.note_at.Reads as note-at-reads
-use Rattle.recorder.proofs.codegen.unsettle.Reads as unsettle-reads
+use Rattle.recorder.proofs.codegen.drop_label.Reads as drop-label-reads
 
 -- src/resolve.rt:74:5
-unsettle-requires : tie.Need-unsettle-requires
-unsettle-requires c κs = search needs
+drop-label-requires : tie.Need-drop-label-requires
+drop-label-requires c κs = search needs
 
 -- src/resolve.rt:75:9
 unpacked-requires : tie.Need-unpacked-requires
@@ -30,13 +30,13 @@ same-length-2 c = search needs
 
 -- src/resolve.rt:63:1
 returns : tie.Need-returns
-returns c = λ t b. missed t b _ _ _ _ _ _ _ _ _ (c .before .before .before .before .before .before .before .before .before .before .before .args .q) _ (c .before .before .before .before .before .before .before .unsettle .ensures) (c .before .before .before .before .unpacked .ensures) (c .before .before .note-at .ensures)
+returns c = λ t b. missed t b _ _ _ _ _ _ _ _ _ (c .before .before .before .before .before .before .before .before .before .before .before .args .q) _ (c .before .before .before .before .before .before .before .drop-label .ensures) (c .before .before .before .before .unpacked .ensures) (c .before .before .note-at .ensures)
 
 pub miss-spec : {M : Type 1} → statement M
 miss-spec =
     tie.close
     (tie.spec
-    unsettle-requires
+    drop-label-requires
     unpacked-requires
     note-at-requires
     same-length

@@ -7,7 +7,7 @@ use lib.ListN.{length}
 use Rattle.recorder.specs.Marks.{Mark}
 use Rattle.recorder.specs.Mem.{mem, memR}
 use Rattle.rules.specs.Program.{resolveDatumIndices}
-use Rattle.closing.specs.Marked.{MarksIn}
+use Rattle.closing.specs.MarksIn.{MarksIn}
 use Rattle.resolution.proofs.ResolveLaws.{indices-step, from-start, indices-done}
 use Rattle.resolution.proofs.resolve.resolve_datum_indices.Statement.{statement}
 use Rattle.resolution.proofs.resolve.resolve_datum_indices.Tie as tie

@@ -7,7 +7,7 @@ use lib.ListN.{length}
 use Rattle.recorder.specs.Marks.{Mark}
 use Rattle.recorder.specs.Mem.{mem, memR}
 use Rattle.rules.specs.Program.{resolveLabels}
-use Rattle.closing.specs.Marked.{MarksIn}
+use Rattle.closing.specs.MarksIn.{MarksIn}
 use Rattle.resolution.proofs.ResolveLaws.{labels-step, from-start, labels-done}
 use Rattle.resolution.proofs.resolve.resolve_labels.Statement.{statement}
 use Rattle.resolution.proofs.resolve.resolve_labels.Tie as tie

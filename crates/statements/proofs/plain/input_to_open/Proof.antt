@@ -5,11 +5,11 @@ use Rattle.statements.proofs.plain.input_to_open.Statement.{statement}
 use Rattle.statements.proofs.plain.input_to_open.Tie as tie
 use Rattle.statements.proofs.plain.input_to_open.Reads as reads
 use Rattle.statements.proofs.plain.input_to_open.Lts as lts
-use Rattle.loops.proofs.count.compile_next.Reads as compile-next-reads
+use Rattle.loops.proofs.for_loop.compile_next.Reads as compile-next-reads
 use Rattle.inputs.proofs.input.compile_input.Reads as compile-input-reads
 use Rattle.jumps.proofs.jump.compile_on.Reads as compile-on-reads
 use Rattle.places.proofs.place.compile_let.Reads as compile-let-reads
-use Rattle.places.proofs.place.compile_locate.Reads as compile-locate-reads
+use Rattle.operations.proofs.locate.compile_locate.Reads as compile-locate-reads
 use Rattle.transfers.proofs.loads.compile_load.Reads as compile-load-reads
 use Rattle.transfers.proofs.opens.compile_open.Reads as compile-open-reads
 

@@ -7,7 +7,7 @@ use Rattle.statements.proofs.plain.print_to_write.Reads as reads
 use Rattle.statements.proofs.plain.print_to_write.Lts as lts
 use Rattle.jumps.proofs.jump.compile_restore.Reads as compile-restore-reads
 use Rattle.operations.proofs.op.compile_system.Reads as compile-system-reads
-use Rattle.operations.proofs.op.compile_while.Reads as compile-while-reads
+use Rattle.loops.proofs.while_loop.compile_while.Reads as compile-while-reads
 use Rattle.places.proofs.place.compile_read.Reads as compile-read-reads
 use Rattle.places.proofs.place.compile_swap.Reads as compile-swap-reads
 use Rattle.prints.proofs.prints.compile_print.Reads as compile-print-reads

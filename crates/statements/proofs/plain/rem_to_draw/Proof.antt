@@ -7,7 +7,7 @@ use Rattle.statements.proofs.plain.rem_to_draw.Reads as reads
 use Rattle.statements.proofs.plain.rem_to_draw.Lts as lts
 use Rattle.operations.proofs.draw.compile_draw_stmt.Reads as compile-draw-stmt-reads
 use Rattle.operations.proofs.op.compile_fread_fwrite.Reads as compile-fread-fwrite-reads
-use Rattle.operations.proofs.op.compile_get_put.Reads as compile-get-put-reads
+use Rattle.operations.proofs.op.compile_binary_stmt.Reads as compile-binary-stmt-reads
 use Rattle.operations.proofs.op.compile_no_op.Reads as compile-no-op-reads
 use Rattle.operations.proofs.op.compile_op.Reads as compile-op-reads
 use Rattle.operations.proofs.op.compile_rem.Reads as compile-rem-reads
@@ -35,8 +35,8 @@ compile-unary-stmt-requires : tie.Need-compile-unary-stmt-requires
 compile-unary-stmt-requires c κs = search needs
 
 -- src/plain.rt:33:14
-compile-get-put-requires : tie.Need-compile-get-put-requires
-compile-get-put-requires c κs = search needs
+compile-binary-stmt-requires : tie.Need-compile-binary-stmt-requires
+compile-binary-stmt-requires c κs = search needs
 
 -- src/plain.rt:34:14
 compile-fread-fwrite-requires : tie.Need-compile-fread-fwrite-requires
@@ -108,7 +108,7 @@ same-length-10 c = search needs
 
 -- src/plain.rt:11:1
 returns-6 : tie.Need-returns-6
-returns-6 c = λ h. rw (c .before .before .before .before .before .before .before .before .before .before .match .keys6) (c .before .before .before .before .before .before .compile-get-put .ensures)
+returns-6 c = λ h. rw (c .before .before .before .before .before .before .before .before .before .before .match .keys6) (c .before .before .before .before .before .before .compile-binary-stmt .ensures)
 
 -- src/plain.rt:11:1
 same-length-11 : tie.Need-same-length-11
@@ -155,7 +155,7 @@ rem-to-draw-spec =
     compile-op-requires
     compile-run-requires
     compile-unary-stmt-requires
-    compile-get-put-requires
+    compile-binary-stmt-requires
     compile-fread-fwrite-requires
     compile-draw-stmt-requires
     same-length

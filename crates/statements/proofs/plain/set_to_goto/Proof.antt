@@ -5,7 +5,7 @@ use Rattle.statements.proofs.plain.set_to_goto.Statement.{statement}
 use Rattle.statements.proofs.plain.set_to_goto.Tie as tie
 use Rattle.statements.proofs.plain.set_to_goto.Reads as reads
 use Rattle.statements.proofs.plain.set_to_goto.Lts as lts
-use Rattle.loops.proofs.count.compile_for.Reads as compile-for-reads
+use Rattle.loops.proofs.for_loop.compile_for.Reads as compile-for-reads
 use Rattle.declarations.proofs.data.compile_data.Reads as compile-data-reads
 use Rattle.declarations.proofs.define.compile_def.Reads as compile-def-reads
 use Rattle.declarations.proofs.dim.compile_dim.Reads as compile-dim-reads

@@ -24,13 +24,13 @@ use Rattle.statements.proofs.stmt.+compile_if+compile_stmt+compile_stmt
 use Rattle.statements.proofs.stmt.compile_stmts.Reads as compile-stmts
 use Rattle.statements.proofs.stmt.compile_stmts.Kinds as compile-stmts-kinds
 use Rattle.statements.proofs.stmt.+compile_if+compile_stmt+compile_stmts.Lts-compile_stmts as compile-stmts-lts
-use Rattle.expressions.proofs.expr.count_at.Reads as count-at-reads
-use Rattle.expressions.proofs.expr.expr_range.Reads as expr-range-reads
+use Rattle.expressions.proofs.expr.read_payload.Reads as read-payload-reads
+use Rattle.expressions.proofs.expr.node_range.Reads as node-range-reads
 use Rattle.recorder.proofs.codegen.current_addr.Reads as current-addr-reads
 use Rattle.recorder.proofs.codegen.emit_no_op.Reads as emit-no-op-reads
 use Rattle.recorder.proofs.word.behind.Reads as behind-reads
 use Rattle.recorder.proofs.word.payload_at.Reads as payload-at-reads
-use Rattle.sheet.proofs.expr.is_absent.Reads as is-absent-reads
+use Rattle.sheet.proofs.leaf.is_absent.Reads as is-absent-reads
 use Rattle.statements.proofs.plain.compile_plain.Reads as compile-plain-reads
 use Rattle.statements.proofs.shape.shape_of.Reads as shape-of-reads
 use Rattle.statements.proofs.stmt.else_head.Reads as else-head-reads
@@ -404,9 +404,9 @@ compile-if-returns-2 : (t : ℕ) → compile-if-lts.Need-returns-2 (
 compile-if-returns-2 t c = if-else _ _ _ _ _ _ _ _ _ _ _ _ _ _ _ _ _ _ (c .before .before .before .before .before .before .before .before .before .before .before .before .before .before .before .before .before .before .before .before .before .before .before .before .before .before .before .before .before .before .before .before .before .before .before .before .before .before .before .before .before .if-head .ensures) (c .before .before .before .before .before .before .before .before .before .before .before .before .before .before .before .before .before .before .before .before .before .before .before .before .before .before .before .before .before .compile-stmts .ensures) (c .before .before .before .before .before .before .before .before .before .before .before .before .before .before .before .before .before .before .before .before .before .is-absent .ensures) (c .before .before .before .before .before .before .before .before .before .before .before .before .before .before .before .before .before .before .before .before .if1 .left) (c .before .before .before .before .before .before .before .before .before .before .before .before .before .before .before .before .before .before .before .current-addr .ensures) ((c .before .before .before .before .before .before .before .before .before .before .before .before .before .before .before .before .before .else-head .ensures) (c .before .before .before .before .before .before .before .before .before .before .before .before .before .before .before .before .before .before .before .before .before .before .before .before .before .before .before .before .before .before .before .before .before .before .before .before .before .before .before .before .before .before .before .before .before .before .before .before .before .before .args .text .now) _ _ (c .before .before .before .before .before .before .before .before .before .before .before .before .before .before .before .before .before .before .before .before .before .before .before .before .before .before .before .before .before .before .before .before .before .before .before .before .before .before .before .before .before .before .before .before .before .before .before .before .before .before .args .base)) (c .before .before .before .before .before .before .before .before .before .before .before .compile-stmts2 .ensures) ((c .before .before .end-here2 .ensures) (c .before .before .before .before .before .before .before .before .before .before .before .before .before .before .before .before .before .before .before .before .before .before .before .before .before .before .before .before .before .before .before .before .before .before .before .before .before .before .before .before .before .before .before .before .before .before .before .before .before .before .args .text .now) _ _ (c .before .before .before .before .before .before .before .before .before .before .before .before .before .before .before .before .before .before .before .before .before .before .before .before .before .before .before .before .before .before .before .before .before .before .before .before .before .before .before .before .before .before .before .before .before .before .before .before .before .before .args .base))
 
 -- src/stmt.rt:109:9
-compile-stmt-expr-range-requires : (t : ℕ) → compile-stmt-lts.Need-expr-range-requires (
-  expr-range-reads.Asked,
-  expr-range-reads.Learnt,
+compile-stmt-node-range-requires : (t : ℕ) → compile-stmt-lts.Need-node-range-requires (
+  node-range-reads.Asked,
+  node-range-reads.Learnt,
   emit-no-op-reads.Asked,
   emit-no-op-reads.Learnt,
   payload-at-reads.Asked,
@@ -420,12 +420,12 @@ compile-stmt-expr-range-requires : (t : ℕ) → compile-stmt-lts.Need-expr-rang
   compile-plain-reads.Asked,
   compile-plain-reads.Learnt,
 ) (compile-stmt-at t) compile-stmt.Post
-compile-stmt-expr-range-requires t c κs = search needs
+compile-stmt-node-range-requires t c κs = search needs
 
 -- src/stmt.rt:111:13
 compile-stmt-emit-no-op-requires : (t : ℕ) → compile-stmt-lts.Need-emit-no-op-requires (
-  expr-range-reads.Asked,
-  expr-range-reads.Learnt,
+  node-range-reads.Asked,
+  node-range-reads.Learnt,
   emit-no-op-reads.Asked,
   emit-no-op-reads.Learnt,
   payload-at-reads.Asked,
@@ -443,8 +443,8 @@ compile-stmt-emit-no-op-requires t c κs = search needs
 
 -- src/stmt.rt:112:9
 compile-stmt-same-length : (t : ℕ) → compile-stmt-lts.Need-same-length (
-  expr-range-reads.Asked,
-  expr-range-reads.Learnt,
+  node-range-reads.Asked,
+  node-range-reads.Learnt,
   emit-no-op-reads.Asked,
   emit-no-op-reads.Learnt,
   payload-at-reads.Asked,
@@ -462,8 +462,8 @@ compile-stmt-same-length t c = search needs
 
 -- src/stmt.rt:112:9
 compile-stmt-returns : (t : ℕ) → compile-stmt-lts.Need-returns (
-  expr-range-reads.Asked,
-  expr-range-reads.Learnt,
+  node-range-reads.Asked,
+  node-range-reads.Learnt,
   emit-no-op-reads.Asked,
   emit-no-op-reads.Learnt,
   payload-at-reads.Asked,
@@ -477,12 +477,12 @@ compile-stmt-returns : (t : ℕ) → compile-stmt-lts.Need-returns (
   compile-plain-reads.Asked,
   compile-plain-reads.Learnt,
 ) (compile-stmt-at t) compile-stmt.Post
-compile-stmt-returns t c = stmt-zero _ _ _ _ _ _ _ _ (c .before .before .before .before .before .expr-range .ensures) (c .before .before .before .before .if1 .taken) (put-at _ _ _ _ _ _ _ _ _ _ _ (c .before .before .emit-no-op .ensures))
+compile-stmt-returns t c = stmt-zero _ _ _ _ _ _ _ _ (c .before .before .before .before .before .node-range .ensures) (c .before .before .before .before .if1 .taken) (put-at _ _ _ _ _ _ _ _ _ _ _ (c .before .before .emit-no-op .ensures))
 
 -- src/stmt.rt:114:9
 compile-stmt-payload-at-requires : (t : ℕ) → compile-stmt-lts.Need-payload-at-requires (
-  expr-range-reads.Asked,
-  expr-range-reads.Learnt,
+  node-range-reads.Asked,
+  node-range-reads.Learnt,
   emit-no-op-reads.Asked,
   emit-no-op-reads.Learnt,
   payload-at-reads.Asked,
@@ -500,8 +500,8 @@ compile-stmt-payload-at-requires t c κs = search needs
 
 -- src/stmt.rt:115:9
 compile-stmt-shape-of-requires : (t : ℕ) → compile-stmt-lts.Need-shape-of-requires (
-  expr-range-reads.Asked,
-  expr-range-reads.Learnt,
+  node-range-reads.Asked,
+  node-range-reads.Learnt,
   emit-no-op-reads.Asked,
   emit-no-op-reads.Learnt,
   payload-at-reads.Asked,
@@ -519,8 +519,8 @@ compile-stmt-shape-of-requires t c κs = search needs
 
 -- src/stmt.rt:116:43
 compile-stmt-behind-requires : (t : ℕ) → compile-stmt-lts.Need-behind-requires (
-  expr-range-reads.Asked,
-  expr-range-reads.Learnt,
+  node-range-reads.Asked,
+  node-range-reads.Learnt,
   emit-no-op-reads.Asked,
   emit-no-op-reads.Learnt,
   payload-at-reads.Asked,
@@ -538,8 +538,8 @@ compile-stmt-behind-requires t c κs = search needs
 
 -- src/stmt.rt:116:9
 compile-stmt-behind-requires-2 : (t : ℕ) → compile-stmt-lts.Need-behind-requires-2 (
-  expr-range-reads.Asked,
-  expr-range-reads.Learnt,
+  node-range-reads.Asked,
+  node-range-reads.Learnt,
   emit-no-op-reads.Asked,
   emit-no-op-reads.Learnt,
   payload-at-reads.Asked,
@@ -557,8 +557,8 @@ compile-stmt-behind-requires-2 t c κs = search needs
 
 -- src/stmt.rt:118:72
 compile-stmt-sub-compile-if : (t : ℕ) → compile-stmt-lts.Need-sub-compile-if (
-  expr-range-reads.Asked,
-  expr-range-reads.Learnt,
+  node-range-reads.Asked,
+  node-range-reads.Learnt,
   emit-no-op-reads.Asked,
   emit-no-op-reads.Learnt,
   payload-at-reads.Asked,
@@ -576,8 +576,8 @@ compile-stmt-sub-compile-if t c = omega (arith, (c .before .before .before .befo
 
 -- src/stmt.rt:118:9
 compile-stmt-compile-if-requires : (t : ℕ) → compile-stmt-lts.Need-compile-if-requires (
-  expr-range-reads.Asked,
-  expr-range-reads.Learnt,
+  node-range-reads.Asked,
+  node-range-reads.Learnt,
   emit-no-op-reads.Asked,
   emit-no-op-reads.Learnt,
   payload-at-reads.Asked,
@@ -595,8 +595,8 @@ compile-stmt-compile-if-requires t c κs = omega (arith, (c .before .before .bef
 
 -- src/stmt.rt:118:9
 compile-stmt-same-length-2 : (t : ℕ) → compile-stmt-lts.Need-same-length-2 (
-  expr-range-reads.Asked,
-  expr-range-reads.Learnt,
+  node-range-reads.Asked,
+  node-range-reads.Learnt,
   emit-no-op-reads.Asked,
   emit-no-op-reads.Learnt,
   payload-at-reads.Asked,
@@ -614,8 +614,8 @@ compile-stmt-same-length-2 t c = search needs
 
 -- src/stmt.rt:118:9
 compile-stmt-same-length-3 : (t : ℕ) → compile-stmt-lts.Need-same-length-3 (
-  expr-range-reads.Asked,
-  expr-range-reads.Learnt,
+  node-range-reads.Asked,
+  node-range-reads.Learnt,
   emit-no-op-reads.Asked,
   emit-no-op-reads.Learnt,
   payload-at-reads.Asked,
@@ -633,8 +633,8 @@ compile-stmt-same-length-3 t c = search needs
 
 -- src/stmt.rt:118:9
 compile-stmt-same-length-4 : (t : ℕ) → compile-stmt-lts.Need-same-length-4 (
-  expr-range-reads.Asked,
-  expr-range-reads.Learnt,
+  node-range-reads.Asked,
+  node-range-reads.Learnt,
   emit-no-op-reads.Asked,
   emit-no-op-reads.Learnt,
   payload-at-reads.Asked,
@@ -652,8 +652,8 @@ compile-stmt-same-length-4 t c = search needs
 
 -- src/stmt.rt:118:9
 compile-stmt-returns-2 : (t : ℕ) → compile-stmt-lts.Need-returns-2 (
-  expr-range-reads.Asked,
-  expr-range-reads.Learnt,
+  node-range-reads.Asked,
+  node-range-reads.Learnt,
   emit-no-op-reads.Asked,
   emit-no-op-reads.Learnt,
   payload-at-reads.Asked,
@@ -667,12 +667,12 @@ compile-stmt-returns-2 : (t : ℕ) → compile-stmt-lts.Need-returns-2 (
   compile-plain-reads.Asked,
   compile-plain-reads.Learnt,
 ) (compile-stmt-at t) compile-stmt.Post
-compile-stmt-returns-2 t c = stmt-if _ _ _ _ _ _ _ _ _ _ _ _ (head _ _ _ _ _ _ _ (c .before .before .before .before .before .before .before .before .before .before .before .before .before .before .before .if1 .left) (c .before .before .before .before .before .before .before .before .before .before .before .before .before .before .payload-at .ensures) (c .before .before .before .before .before .before .before .before .before .before .before .before .before .before .before .before .expr-range .ensures) (c .before .before .before .before .before .before .before .before .before .before .before .before .behind .ensures) (c .before .before .before .before .before .before .before .before .before .before .before .behind2 .ensures)) (c .before .before .before .before .before .before .before .before .before .before .before .before .before .shape-of .ensures) (c .before .before .before .before .before .before .before .before .before .before .if2 .taken) (c .before .before .before .before .before .before .compile-if .ensures)
+compile-stmt-returns-2 t c = stmt-if _ _ _ _ _ _ _ _ _ _ _ _ (head _ _ _ _ _ _ _ (c .before .before .before .before .before .before .before .before .before .before .before .before .before .before .before .if1 .left) (c .before .before .before .before .before .before .before .before .before .before .before .before .before .before .payload-at .ensures) (c .before .before .before .before .before .before .before .before .before .before .before .before .before .before .before .before .node-range .ensures) (c .before .before .before .before .before .before .before .before .before .before .before .before .behind .ensures) (c .before .before .before .before .before .before .before .before .before .before .before .behind2 .ensures)) (c .before .before .before .before .before .before .before .before .before .before .before .before .before .shape-of .ensures) (c .before .before .before .before .before .before .before .before .before .before .if2 .taken) (c .before .before .before .before .before .before .compile-if .ensures)
 
 -- src/stmt.rt:120:78
 compile-stmt-sub-compile-plain : (t : ℕ) → compile-stmt-lts.Need-sub-compile-plain (
-  expr-range-reads.Asked,
-  expr-range-reads.Learnt,
+  node-range-reads.Asked,
+  node-range-reads.Learnt,
   emit-no-op-reads.Asked,
   emit-no-op-reads.Learnt,
   payload-at-reads.Asked,
@@ -690,8 +690,8 @@ compile-stmt-sub-compile-plain t c = omega (arith, (c .before .before .before .b
 
 -- src/stmt.rt:120:5
 compile-stmt-compile-plain-requires : (t : ℕ) → compile-stmt-lts.Need-compile-plain-requires (
-  expr-range-reads.Asked,
-  expr-range-reads.Learnt,
+  node-range-reads.Asked,
+  node-range-reads.Learnt,
   emit-no-op-reads.Asked,
   emit-no-op-reads.Learnt,
   payload-at-reads.Asked,
@@ -709,8 +709,8 @@ compile-stmt-compile-plain-requires t c κs = search needs
 
 -- src/stmt.rt:96:1
 compile-stmt-same-length-5 : (t : ℕ) → compile-stmt-lts.Need-same-length-5 (
-  expr-range-reads.Asked,
-  expr-range-reads.Learnt,
+  node-range-reads.Asked,
+  node-range-reads.Learnt,
   emit-no-op-reads.Asked,
   emit-no-op-reads.Learnt,
   payload-at-reads.Asked,
@@ -728,8 +728,8 @@ compile-stmt-same-length-5 t c = search needs
 
 -- src/stmt.rt:96:1
 compile-stmt-same-length-6 : (t : ℕ) → compile-stmt-lts.Need-same-length-6 (
-  expr-range-reads.Asked,
-  expr-range-reads.Learnt,
+  node-range-reads.Asked,
+  node-range-reads.Learnt,
   emit-no-op-reads.Asked,
   emit-no-op-reads.Learnt,
   payload-at-reads.Asked,
@@ -747,8 +747,8 @@ compile-stmt-same-length-6 t c = search needs
 
 -- src/stmt.rt:96:1
 compile-stmt-same-length-7 : (t : ℕ) → compile-stmt-lts.Need-same-length-7 (
-  expr-range-reads.Asked,
-  expr-range-reads.Learnt,
+  node-range-reads.Asked,
+  node-range-reads.Learnt,
   emit-no-op-reads.Asked,
   emit-no-op-reads.Learnt,
   payload-at-reads.Asked,
@@ -766,8 +766,8 @@ compile-stmt-same-length-7 t c = search needs
 
 -- src/stmt.rt:96:1
 compile-stmt-returns-3 : (t : ℕ) → compile-stmt-lts.Need-returns-3 (
-  expr-range-reads.Asked,
-  expr-range-reads.Learnt,
+  node-range-reads.Asked,
+  node-range-reads.Learnt,
   emit-no-op-reads.Asked,
   emit-no-op-reads.Learnt,
   payload-at-reads.Asked,
@@ -781,7 +781,7 @@ compile-stmt-returns-3 : (t : ℕ) → compile-stmt-lts.Need-returns-3 (
   compile-plain-reads.Asked,
   compile-plain-reads.Learnt,
 ) (compile-stmt-at t) compile-stmt.Post
-compile-stmt-returns-3 t c = stmt-plain _ _ _ _ _ _ _ _ _ _ _ _ (head _ _ _ _ _ _ _ (c .before .before .before .before .before .before .before .before .before .before .before .before .before .before .before .if1 .left) (c .before .before .before .before .before .before .before .before .before .before .before .before .before .before .payload-at .ensures) (c .before .before .before .before .before .before .before .before .before .before .before .before .before .before .before .before .expr-range .ensures) (c .before .before .before .before .before .before .before .before .before .before .before .before .behind .ensures) (c .before .before .before .before .before .before .before .before .before .before .before .behind2 .ensures)) (c .before .before .before .before .before .before .before .before .before .before .before .before .before .shape-of .ensures) (c .before .before .before .before .before .before .before .before .before .before .if2 .left) (c .before .before .before .before .before .before .compile-plain .ensures)
+compile-stmt-returns-3 t c = stmt-plain _ _ _ _ _ _ _ _ _ _ _ _ (head _ _ _ _ _ _ _ (c .before .before .before .before .before .before .before .before .before .before .before .before .before .before .before .if1 .left) (c .before .before .before .before .before .before .before .before .before .before .before .before .before .before .payload-at .ensures) (c .before .before .before .before .before .before .before .before .before .before .before .before .before .before .before .before .node-range .ensures) (c .before .before .before .before .before .before .before .before .before .before .before .before .behind .ensures) (c .before .before .before .before .before .before .before .before .before .before .before .behind2 .ensures)) (c .before .before .before .before .before .before .before .before .before .before .before .before .before .shape-of .ensures) (c .before .before .before .before .before .before .before .before .before .before .if2 .left) (c .before .before .before .before .before .before .compile-plain .ensures)
 
 abbrev compile-stmts-Inv-loop : compile-stmts-lts.InvT-loop
 compile-stmts-Inv-loop sheet text list₀ notes₀ book₀ base at left s₀ p₀ more₀ list notes book s p more = (length list ≡ length list₀) × (length notes ≡ length notes₀) × (length book ≡ length book₀)
@@ -792,18 +792,18 @@ abbrev compile-stmts-μ-loop : compile-stmts-lts.MeasureT-loop
 compile-stmts-μ-loop sheet text list₀ notes₀ book₀ base at left s₀ p₀ more₀ list notes book s p more = more
 
 -- src/stmt.rt:137:9
-compile-stmts-count-at-requires : (t : ℕ) → compile-stmts-lts.Need-count-at-requires (
-  count-at-reads.Asked,
-  count-at-reads.Learnt,
+compile-stmts-read-payload-requires : (t : ℕ) → compile-stmts-lts.Need-read-payload-requires (
+  read-payload-reads.Asked,
+  read-payload-reads.Learnt,
   compile-stmt-below t,
   compile-stmt.Post,
 ) (compile-stmts-at t) compile-stmts.Post compile-stmts-Inv-loop compile-stmts-μ-loop
-compile-stmts-count-at-requires t c κs = search needs
+compile-stmts-read-payload-requires t c κs = search needs
 
 -- src/stmt.rt:141:5
 compile-stmts-loop-holds : (t : ℕ) → compile-stmts-lts.Need-loop-holds (
-  count-at-reads.Asked,
-  count-at-reads.Learnt,
+  read-payload-reads.Asked,
+  read-payload-reads.Learnt,
   compile-stmt-below t,
   compile-stmt.Post,
 ) (compile-stmts-at t) compile-stmts.Post compile-stmts-Inv-loop compile-stmts-μ-loop
@@ -811,8 +811,8 @@ compile-stmts-loop-holds t c = (refl, refl, refl, refl, refl)
 
 -- src/stmt.rt:142:13
 compile-stmts-compile-stmt-requires : (t : ℕ) → compile-stmts-lts.Need-compile-stmt-requires (
-  count-at-reads.Asked,
-  count-at-reads.Learnt,
+  read-payload-reads.Asked,
+  read-payload-reads.Learnt,
   compile-stmt-below t,
   compile-stmt.Post,
 ) (compile-stmts-at t) compile-stmts.Post compile-stmts-Inv-loop compile-stmts-μ-loop
@@ -820,8 +820,8 @@ compile-stmts-compile-stmt-requires t c κs = omega arith
 
 -- src/stmt.rt:145:9
 compile-stmts-sub-more : (t : ℕ) → compile-stmts-lts.Need-sub-more (
-  count-at-reads.Asked,
-  count-at-reads.Learnt,
+  read-payload-reads.Asked,
+  read-payload-reads.Learnt,
   compile-stmt-below t,
   compile-stmt.Post,
 ) (compile-stmts-at t) compile-stmts.Post compile-stmts-Inv-loop compile-stmts-μ-loop
@@ -829,8 +829,8 @@ compile-stmts-sub-more t c = omega arith
 
 -- src/stmt.rt:141:5
 compile-stmts-loop-less : (t : ℕ) → compile-stmts-lts.Need-loop-less (
-  count-at-reads.Asked,
-  count-at-reads.Learnt,
+  read-payload-reads.Asked,
+  read-payload-reads.Learnt,
   compile-stmt-below t,
   compile-stmt.Post,
 ) (compile-stmts-at t) compile-stmts.Post compile-stmts-Inv-loop compile-stmts-μ-loop
@@ -838,8 +838,8 @@ compile-stmts-loop-less t c = omega arith
 
 -- src/stmt.rt:141:5
 compile-stmts-loop-again : (t : ℕ) → compile-stmts-lts.Need-loop-again (
-  count-at-reads.Asked,
-  count-at-reads.Learnt,
+  read-payload-reads.Asked,
+  read-payload-reads.Learnt,
   compile-stmt-below t,
   compile-stmt.Post,
 ) (compile-stmts-at t) compile-stmts.Post compile-stmts-Inv-loop compile-stmts-μ-loop
@@ -847,8 +847,8 @@ compile-stmts-loop-again t c = ((c .before .before .before .before .before .befo
 
 -- src/stmt.rt:124:1
 compile-stmts-same-length : (t : ℕ) → compile-stmts-lts.Need-same-length (
-  count-at-reads.Asked,
-  count-at-reads.Learnt,
+  read-payload-reads.Asked,
+  read-payload-reads.Learnt,
   compile-stmt-below t,
   compile-stmt.Post,
 ) (compile-stmts-at t) compile-stmts.Post compile-stmts-Inv-loop compile-stmts-μ-loop
@@ -856,8 +856,8 @@ compile-stmts-same-length t c = (c .before .loop .inv .0)
 
 -- src/stmt.rt:124:1
 compile-stmts-same-length-2 : (t : ℕ) → compile-stmts-lts.Need-same-length-2 (
-  count-at-reads.Asked,
-  count-at-reads.Learnt,
+  read-payload-reads.Asked,
+  read-payload-reads.Learnt,
   compile-stmt-below t,
   compile-stmt.Post,
 ) (compile-stmts-at t) compile-stmts.Post compile-stmts-Inv-loop compile-stmts-μ-loop
@@ -865,8 +865,8 @@ compile-stmts-same-length-2 t c = (c .before .loop .inv .1)
 
 -- src/stmt.rt:124:1
 compile-stmts-same-length-3 : (t : ℕ) → compile-stmts-lts.Need-same-length-3 (
-  count-at-reads.Asked,
-  count-at-reads.Learnt,
+  read-payload-reads.Asked,
+  read-payload-reads.Learnt,
   compile-stmt-below t,
   compile-stmt.Post,
 ) (compile-stmts-at t) compile-stmts.Post compile-stmts-Inv-loop compile-stmts-μ-loop
@@ -874,12 +874,12 @@ compile-stmts-same-length-3 t c = (c .before .loop .inv .2)
 
 -- src/stmt.rt:124:1
 compile-stmts-returns : (t : ℕ) → compile-stmts-lts.Need-returns (
-  count-at-reads.Asked,
-  count-at-reads.Learnt,
+  read-payload-reads.Asked,
+  read-payload-reads.Learnt,
   compile-stmt-below t,
   compile-stmt.Post,
 ) (compile-stmts-at t) compile-stmts.Post compile-stmts-Inv-loop compile-stmts-μ-loop
-compile-stmts-returns t c = no-more _ _ _ _ _ _ _ _ _ _ _ (c .before .before .count-at .ensures) (c .loop-test .left) (c .before .loop .inv .3) (c .before .loop .inv .4)
+compile-stmts-returns t c = no-more _ _ _ _ _ _ _ _ _ _ _ (c .before .before .read-payload .ensures) (c .loop-test .left) (c .before .loop .inv .3) (c .before .loop .inv .4)
 
 pub +compile-if+compile-stmt+compile-stmts-spec : {M : Type 1} → statement M
 +compile-if+compile-stmt+compile-stmts-spec =
@@ -919,8 +919,8 @@ pub +compile-if+compile-stmt+compile-stmts-spec : {M : Type 1} → statement M
     (compile-if-same-length-6 t)
     (compile-if-returns-2 t))
     (λ t. compile-stmt-lts.spec (
-      expr-range-reads.Asked,
-      expr-range-reads.Learnt,
+      node-range-reads.Asked,
+      node-range-reads.Learnt,
       emit-no-op-reads.Asked,
       emit-no-op-reads.Learnt,
       payload-at-reads.Asked,
@@ -936,7 +936,7 @@ pub +compile-if+compile-stmt+compile-stmts-spec : {M : Type 1} → statement M
     )
     (compile-stmt-at t)
     compile-stmt.Post
-    (compile-stmt-expr-range-requires t)
+    (compile-stmt-node-range-requires t)
     (compile-stmt-emit-no-op-requires t)
     (compile-stmt-same-length t)
     (compile-stmt-returns t)
@@ -957,12 +957,12 @@ pub +compile-if+compile-stmt+compile-stmts-spec : {M : Type 1} → statement M
     (compile-stmt-same-length-7 t)
     (compile-stmt-returns-3 t))
     λ t. compile-stmts-lts.spec
-    (count-at-reads.Asked, count-at-reads.Learnt, compile-stmt-below t, compile-stmt.Post)
+    (read-payload-reads.Asked, read-payload-reads.Learnt, compile-stmt-below t, compile-stmt.Post)
     (compile-stmts-at t)
     compile-stmts.Post
     compile-stmts-Inv-loop
     compile-stmts-μ-loop
-    (compile-stmts-count-at-requires t)
+    (compile-stmts-read-payload-requires t)
     (compile-stmts-loop-holds t)
     (compile-stmts-compile-stmt-requires t)
     (compile-stmts-sub-more t)

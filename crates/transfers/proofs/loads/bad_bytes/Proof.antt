@@ -30,8 +30,8 @@ loop-holds c = (refl, refl, λ l b. refl)
 byte-of-requires : tie.Need-byte-of-requires Inv-loop μ-loop
 byte-of-requires c κs = search needs
 
-expr-range-requires : tie.Need-expr-range-requires Inv-loop μ-loop
-expr-range-requires c κs = search needs
+node-range-requires : tie.Need-node-range-requires Inv-loop μ-loop
+node-range-requires c κs = search needs
 
 bad-byte-requires : tie.Need-bad-byte-requires Inv-loop μ-loop
 bad-byte-requires c κs = search needs
@@ -46,7 +46,7 @@ loop-less : tie.Need-loop-less Inv-loop μ-loop
 loop-less c = omega (arith, (c .before .before .before .before .before .before .before .loop-test .taken))
 
 loop-again : tie.Need-loop-again Inv-loop μ-loop
-loop-again c = ((c .before .before .before .bad-byte .kept .0) ∙ (c .before .before .before .before .before .before .before .before .loop .inv .0), step-expr (c .before .before .before .before .before .before .before .before .before .before .before .before .args .sheet .now) (c .before .before .before .before .before .before .before .before .before .before .before .before .args .left) (c .before .before .before .before .before .before .before .before .loop .more) (c .before .before .before .before .before .before .before .before .loop .p) _ (c .before .before .before .before .before .before .before .loop-test .taken) (c .skip-expr .ensures) ∙ (c .before .before .before .before .before .before .before .before .loop .inv .1), λ l b. bad-step (c .before .before .before .before .before .before .before .before .before .before .before .before .args .sheet .now) (c .before .before .before .before .before .before .before .before .before .before .before .before .args .text .now) (c .before .before .before .before .before .before .before .before .before .before .before .before .args .base) (c .before .before .before .before .before .before .before .before .before .before .before .before .args .left) (c .before .before .before .before .before .before .before .before .loop .more) (c .before .before .before .before .before .before .before .before .loop .p) _ (c .before .before .before .before .before .before .byte-of .result) (c .before .before .before .before .before .expr-range .result) _ _ (c .before .before .before .before .before .before .before .loop-test .taken) (c .before .before .before .before .before .before .byte-of .ensures) (c .before .before .before .before .before .expr-range .ensures) ((c .before .before .before .bad-byte .ensures) (c .before .before .before .before .before .before .before .before .before .before .before .before .args .text .now) l b (c .before .before .before .before .before .before .before .before .before .before .before .before .args .base)) (c .skip-expr .ensures) ∙ (c .before .before .before .before .before .before .before .before .loop .inv .2) l b)
+loop-again c = ((c .before .before .before .bad-byte .kept .0) ∙ (c .before .before .before .before .before .before .before .before .loop .inv .0), step-expr (c .before .before .before .before .before .before .before .before .before .before .before .before .args .sheet .now) (c .before .before .before .before .before .before .before .before .before .before .before .before .args .left) (c .before .before .before .before .before .before .before .before .loop .more) (c .before .before .before .before .before .before .before .before .loop .p) _ (c .before .before .before .before .before .before .before .loop-test .taken) (c .skip-expr .ensures) ∙ (c .before .before .before .before .before .before .before .before .loop .inv .1), λ l b. bad-step (c .before .before .before .before .before .before .before .before .before .before .before .before .args .sheet .now) (c .before .before .before .before .before .before .before .before .before .before .before .before .args .text .now) (c .before .before .before .before .before .before .before .before .before .before .before .before .args .base) (c .before .before .before .before .before .before .before .before .before .before .before .before .args .left) (c .before .before .before .before .before .before .before .before .loop .more) (c .before .before .before .before .before .before .before .before .loop .p) _ (c .before .before .before .before .before .before .byte-of .result) (c .before .before .before .before .before .node-range .result) _ _ (c .before .before .before .before .before .before .before .loop-test .taken) (c .before .before .before .before .before .before .byte-of .ensures) (c .before .before .before .before .before .node-range .ensures) ((c .before .before .before .bad-byte .ensures) (c .before .before .before .before .before .before .before .before .before .before .before .before .args .text .now) l b (c .before .before .before .before .before .before .before .before .before .before .before .before .args .base)) (c .skip-expr .ensures) ∙ (c .before .before .before .before .before .before .before .before .loop .inv .2) l b)
 
 same-length : tie.Need-same-length Inv-loop μ-loop
 same-length c = (c .before .loop .inv .0)
@@ -62,7 +62,7 @@ bad-bytes-spec =
     μ-loop
     loop-holds
     byte-of-requires
-    expr-range-requires
+    node-range-requires
     bad-byte-requires
     skip-expr-requires
     sub-more

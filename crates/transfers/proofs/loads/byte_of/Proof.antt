@@ -11,8 +11,8 @@ returns c = byte-zero (c .before .before .before .args .sheet .now) (c .before .
 payload-at-requires : tie.Need-payload-at-requires
 payload-at-requires c κs = search needs
 
-expr-range-requires : tie.Need-expr-range-requires
-expr-range-requires c κs = search needs
+node-range-requires : tie.Need-node-range-requires
+node-range-requires c κs = search needs
 
 cast-text-place : tie.Need-cast-text-place
 cast-text-place c = search needs
@@ -30,7 +30,7 @@ byte-units-requires : tie.Need-byte-units-requires
 byte-units-requires c κs = search needs
 
 returns-2 : tie.Need-returns-2
-returns-2 c = byte-literal (c .before .before .before .before .before .before .before .before .before .before .args .sheet .now) (c .before .before .before .before .before .before .before .before .before .before .args .text .now) (c .before .before .before .before .before .before .before .before .before .before .args .base) (c .before .before .before .before .before .before .before .before .before .before .args .left) (c .before .before .before .before .before .before .before .before .before .before .args .at) _ _ _ _ (c .byte-units .result) (c .before .before .before .before .before .before .before .if1 .left) (c .before .before .before .before .before .before .payload-at .ensures) (c .before .before .before .before .before .if2 .taken) (c .before .before .before .before .expr-range .ensures) (c .before .before .text-place .ensures) (c .before .units .ensures) (c .byte-units .ensures)
+returns-2 c = byte-literal (c .before .before .before .before .before .before .before .before .before .before .args .sheet .now) (c .before .before .before .before .before .before .before .before .before .before .args .text .now) (c .before .before .before .before .before .before .before .before .before .before .args .base) (c .before .before .before .before .before .before .before .before .before .before .args .left) (c .before .before .before .before .before .before .before .before .before .before .args .at) _ _ _ _ (c .byte-units .result) (c .before .before .before .before .before .before .before .if1 .left) (c .before .before .before .before .before .before .payload-at .ensures) (c .before .before .before .before .before .if2 .taken) (c .before .before .before .before .node-range .ensures) (c .before .before .text-place .ensures) (c .before .units .ensures) (c .byte-units .ensures)
 
 returns-3 : tie.Need-returns-3
 returns-3 c = byte-other (c .before .before .before .before .before .args .sheet .now) (c .before .before .before .before .before .args .text .now) (c .before .before .before .before .before .args .base) (c .before .before .before .before .before .args .left) (c .before .before .before .before .before .args .at) _ (c .before .payload-at .ensures) (c .if2 .left)
@@ -41,7 +41,7 @@ byte-of-spec =
     (tie.spec
     returns
     payload-at-requires
-    expr-range-requires
+    node-range-requires
     cast-text-place
     text-place-requires
     units-requires

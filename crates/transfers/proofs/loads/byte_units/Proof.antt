@@ -1,7 +1,7 @@
 use native.Mathlib.Omega.{arith}
 use mathlib.Core.Path.{_≡_, refl, _∙_}
 use Rattle.rules.specs.Stmt.{fresh, byteUnits}
-use Rattle.transfers.specs.Moved.{readOf}
+use Rattle.transfers.specs.Parts.{readOf}
 use Rattle.transfers.proofs.LoadLaws.{units-step, units-end}
 use borrow.Author.Needs.{needs}
 use Rattle.transfers.proofs.loads.byte_units.Statement.{statement}

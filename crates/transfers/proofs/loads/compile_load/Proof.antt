@@ -7,11 +7,11 @@ use Rattle.transfers.proofs.loads.compile_load.Tie as tie
 use Rattle.transfers.proofs.loads.compile_load.Reads as reads
 use Rattle.transfers.proofs.loads.compile_load.Lts as lts
 
-count-at-requires : tie.Need-count-at-requires
-count-at-requires c κs = search needs
+read-payload-requires : tie.Need-read-payload-requires
+read-payload-requires c κs = search needs
 
 returns : tie.Need-returns
-returns c = load-empty _ _ _ _ _ _ _ _ _ _ (c .before .before .count-at .ensures) (c .if1 .taken)
+returns c = load-empty _ _ _ _ _ _ _ _ _ _ (c .before .before .read-payload .ensures) (c .if1 .taken)
 
 compile-typed-requires : tie.Need-compile-typed-requires
 compile-typed-requires c κs = search needs
@@ -32,13 +32,13 @@ same-length-3 : tie.Need-same-length-3
 same-length-3 c = (c .before .before .before .before .before .before .load-node .kept .1 .1 .1 .1 .0) ∙ (c .before .before .before .before .before .before .before .before .before .before .before .before .before .before .before .before .before .before .compile-typed .kept .1 .1 .1 .1 .0)
 
 returns-2 : tie.Need-returns-2
-returns-2 c = load-of _ _ _ _ _ _ _ _ _ _ _ _ _ _ (c .before .before .before .before .before .before .before .before .before .before .before .before .before .before .before .before .before .before .before .before .before .before .before .before .count-at .ensures) (c .before .before .before .before .before .before .before .before .before .before .before .before .before .before .before .before .before .before .before .before .before .before .if1 .left) (c .before .before .before .before .before .before .before .before .before .before .before .before .before .before .before .before .before .before .compile-typed .ensures) (c .before .before .before .before .before .before .load-node .ensures)
+returns-2 c = load-of _ _ _ _ _ _ _ _ _ _ _ _ _ _ (c .before .before .before .before .before .before .before .before .before .before .before .before .before .before .before .before .before .before .before .before .before .before .before .before .read-payload .ensures) (c .before .before .before .before .before .before .before .before .before .before .before .before .before .before .before .before .before .before .before .before .before .before .if1 .left) (c .before .before .before .before .before .before .before .before .before .before .before .before .before .before .before .before .before .before .compile-typed .ensures) (c .before .before .before .before .before .before .load-node .ensures)
 
 pub compile-load-spec : {M : Type 1} → statement M
 compile-load-spec =
     tie.close
     (tie.spec
-    count-at-requires
+    read-payload-requires
     returns
     compile-typed-requires
     sub-load-node

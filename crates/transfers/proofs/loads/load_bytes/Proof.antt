@@ -28,8 +28,8 @@ loop-holds c = (refl, λ l o. refl)
 byte-of-requires : tie.Need-byte-of-requires Inv-loop μ-loop
 byte-of-requires c κs = search needs
 
-expr-range-requires : tie.Need-expr-range-requires Inv-loop μ-loop
-expr-range-requires c κs = search needs
+node-range-requires : tie.Need-node-range-requires Inv-loop μ-loop
+node-range-requires c κs = search needs
 
 load-one-requires : tie.Need-load-one-requires Inv-loop μ-loop
 load-one-requires c κs = search needs
@@ -44,7 +44,7 @@ loop-less : tie.Need-loop-less Inv-loop μ-loop
 loop-less c = omega (arith, (c .before .before .before .before .before .before .before .loop-test .taken))
 
 loop-again : tie.Need-loop-again Inv-loop μ-loop
-loop-again c = ((c .before .before .before .load-one .kept .0) ∙ (c .before .before .before .before .before .before .before .before .loop .inv .0), λ l o. load-step (c .before .before .before .before .before .before .before .before .before .before .before .before .args .sheet .now) (c .before .before .before .before .before .before .before .before .before .before .before .before .args .text .now) (c .before .before .before .before .before .before .before .before .before .before .before .before .args .base) (c .before .before .before .before .before .before .before .before .before .before .before .before .args .left) (c .before .before .before .before .before .before .before .before .loop .more) (c .before .before .before .before .before .before .before .before .loop .p) _ (c .before .before .before .before .before .before .byte-of .result) (c .before .before .before .before .before .expr-range .result) _ _ (c .before .before .before .before .before .before .before .loop-test .taken) (c .before .before .before .before .before .before .byte-of .ensures) (c .before .before .before .before .before .expr-range .ensures) ((c .before .before .before .load-one .ensures) (c .before .before .before .before .before .before .before .before .before .before .before .before .args .text .now) l o) (c .skip-expr .ensures) ∙ (c .before .before .before .before .before .before .before .before .loop .inv .1) l o)
+loop-again c = ((c .before .before .before .load-one .kept .0) ∙ (c .before .before .before .before .before .before .before .before .loop .inv .0), λ l o. load-step (c .before .before .before .before .before .before .before .before .before .before .before .before .args .sheet .now) (c .before .before .before .before .before .before .before .before .before .before .before .before .args .text .now) (c .before .before .before .before .before .before .before .before .before .before .before .before .args .base) (c .before .before .before .before .before .before .before .before .before .before .before .before .args .left) (c .before .before .before .before .before .before .before .before .loop .more) (c .before .before .before .before .before .before .before .before .loop .p) _ (c .before .before .before .before .before .before .byte-of .result) (c .before .before .before .before .before .node-range .result) _ _ (c .before .before .before .before .before .before .before .loop-test .taken) (c .before .before .before .before .before .before .byte-of .ensures) (c .before .before .before .before .before .node-range .ensures) ((c .before .before .before .load-one .ensures) (c .before .before .before .before .before .before .before .before .before .before .before .before .args .text .now) l o) (c .skip-expr .ensures) ∙ (c .before .before .before .before .before .before .before .before .loop .inv .1) l o)
 
 same-length : tie.Need-same-length Inv-loop μ-loop
 same-length c = (c .before .loop .inv .0)
@@ -60,7 +60,7 @@ load-bytes-spec =
     μ-loop
     loop-holds
     byte-of-requires
-    expr-range-requires
+    node-range-requires
     load-one-requires
     skip-expr-requires
     sub-more

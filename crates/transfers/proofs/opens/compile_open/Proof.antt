@@ -9,8 +9,8 @@ use Rattle.transfers.proofs.opens.compile_open.Lts as lts
 compile-typed-requires : tie.Need-compile-typed-requires
 compile-typed-requires c κs = search needs
 
-count-at-requires : tie.Need-count-at-requires
-count-at-requires c κs = search needs
+read-payload-requires : tie.Need-read-payload-requires
+read-payload-requires c κs = search needs
 
 compile-typed-requires-2 : tie.Need-compile-typed-requires-2
 compile-typed-requires-2 c κs = search needs
@@ -28,14 +28,14 @@ same-length-3 : tie.Need-same-length-3
 same-length-3 c = (c .before .before .before .before .before .before .open-node .kept .1 .1 .1 .1 .0) ∙ (c .before .before .before .before .before .before .before .before .before .before .before .before .before .before .before .before .before .compile-typed2 .kept .1 .1 .1 .1 .0) ∙ (c .before .before .before .before .before .before .before .before .before .before .before .before .before .before .before .before .before .before .before .before .before .before .before .before .before .before .before .before .before .compile-typed .kept .1 .1 .1 .1 .0)
 
 returns : tie.Need-returns
-returns c = open-of _ _ _ _ _ _ _ _ _ _ _ _ _ _ _ _ (c .before .before .before .before .before .before .before .before .before .before .before .before .before .before .before .before .before .before .before .before .before .before .before .before .before .before .before .before .before .compile-typed .ensures) (c .before .before .before .before .before .before .before .before .before .before .before .before .before .before .before .before .before .before .before .before .before .count-at .ensures) (c .before .before .before .before .before .before .before .before .before .before .before .before .before .before .before .before .before .compile-typed2 .ensures) (c .before .before .before .before .before .before .open-node .ensures)
+returns c = open-of _ _ _ _ _ _ _ _ _ _ _ _ _ _ _ _ (c .before .before .before .before .before .before .before .before .before .before .before .before .before .before .before .before .before .before .before .before .before .before .before .before .before .before .before .before .before .compile-typed .ensures) (c .before .before .before .before .before .before .before .before .before .before .before .before .before .before .before .before .before .before .before .before .before .read-payload .ensures) (c .before .before .before .before .before .before .before .before .before .before .before .before .before .before .before .before .before .compile-typed2 .ensures) (c .before .before .before .before .before .before .open-node .ensures)
 
 pub compile-open-spec : {M : Type 1} → statement M
 compile-open-spec =
     tie.close
     (tie.spec
     compile-typed-requires
-    count-at-requires
+    read-payload-requires
     compile-typed-requires-2
     open-node-requires
     same-length

@@ -7,9 +7,9 @@ use Rattle.walk.proofs.quick.expr_own_ends.Statement.{statement}
 use Rattle.walk.proofs.quick.expr_own_ends.Tie as tie
 use Rattle.walk.proofs.quick.expr_own_ends.Reads as reads
 use Rattle.walk.proofs.quick.expr_own_ends.Lts as lts
-use Rattle.sheet.proofs.expr.name_form.Reads as name-form-reads
-use Rattle.sheet.proofs.expr.range_form.Reads as range-form-reads
-use Rattle.sheet.proofs.expr.text_form.Reads as text-form-reads
+use Rattle.sheet.proofs.leaf.name_form.Reads as name-form-reads
+use Rattle.sheet.proofs.leaf.range_form.Reads as range-form-reads
+use Rattle.sheet.proofs.leaf.text_form.Reads as text-form-reads
 use Rattle.walk.proofs.quick.ends.Reads as ends-reads
 
 -- src/quick.rt:252:21

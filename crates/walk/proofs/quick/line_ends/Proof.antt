@@ -6,7 +6,7 @@ use Rattle.walk.proofs.quick.line_ends.Tie as tie
 use Rattle.walk.proofs.quick.line_ends.Reads as reads
 use Rattle.walk.proofs.quick.line_ends.Lts as lts
 use Rattle.recorder.proofs.word.payload_at.Reads as payload-at-reads
-use Rattle.sheet.proofs.expr.label_form.Reads as label-form-reads
+use Rattle.sheet.proofs.leaf.label_form.Reads as label-form-reads
 use Rattle.walk.proofs.quick.ends.Reads as ends-reads
 use Rattle.walk.proofs.quick.stmts_ends.Reads as stmts-ends-reads
 use Rattle.walk.proofs.stmt.line_head.Reads as line-head-reads

@@ -5,7 +5,7 @@ use Rattle.walk.proofs.quick.own_ends.Statement.{statement}
 use Rattle.walk.proofs.quick.own_ends.Tie as tie
 use Rattle.walk.proofs.quick.own_ends.Reads as reads
 use Rattle.walk.proofs.quick.own_ends.Lts as lts
-use Rattle.sheet.proofs.expr.range_form.Reads as range-form-reads
+use Rattle.sheet.proofs.leaf.range_form.Reads as range-form-reads
 use Rattle.walk.proofs.quick.ends.Reads as ends-reads
 use Rattle.walk.proofs.quick.expr_own_ends.Reads as expr-own-ends-reads
 

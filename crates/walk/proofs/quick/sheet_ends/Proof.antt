@@ -5,7 +5,7 @@ use Rattle.walk.proofs.quick.sheet_ends.Tie as tie
 use Rattle.walk.proofs.quick.sheet_ends.Reads as reads
 use Rattle.walk.proofs.quick.sheet_ends.Lts as lts
 use Rattle.recorder.proofs.word.payload_at.Reads as payload-at-reads
-use Rattle.sheet.proofs.expr.take_word.Reads as take-word-reads
+use Rattle.sheet.proofs.leaf.take_word.Reads as take-word-reads
 use Rattle.walk.proofs.quick.ends.Reads as ends-reads
 use Rattle.walk.proofs.quick.lines_ends.Reads as lines-ends-reads
 

@@ -39,7 +39,7 @@ use Rattle.walk.proofs.stmt.skip_source.Kinds as skip-source-kinds
 use Rattle.walk.proofs.stmt.+skip_element+skip_field+skip_fields+skip_item+skip_list+skip_node+skip_pair+skip_source.Lts-skip_source as skip-source-lts
 use Rattle.recorder.proofs.word.behind.Reads as behind-reads
 use Rattle.recorder.proofs.word.payload_at.Reads as payload-at-reads
-use Rattle.sheet.proofs.expr.is_absent.Reads as is-absent-reads
+use Rattle.sheet.proofs.leaf.is_absent.Reads as is-absent-reads
 use Rattle.sheet.proofs.form.case_of.Reads as case-of-reads
 use Rattle.sheet.proofs.form.field_at.Reads as field-at-reads
 use Rattle.sheet.proofs.form.start_after.Reads as start-after-reads

@@ -8,7 +8,7 @@ use Rattle.walk.proofs.stmt.line_form.Tie as tie
 use Rattle.walk.proofs.stmt.line_form.Reads as reads
 use Rattle.walk.proofs.stmt.line_form.Lts as lts
 use Rattle.recorder.proofs.word.payload_at.Reads as payload-at-reads
-use Rattle.sheet.proofs.expr.label_form.Reads as label-form-reads
+use Rattle.sheet.proofs.leaf.label_form.Reads as label-form-reads
 use Rattle.walk.proofs.stmt.line_head.Reads as line-head-reads
 use Rattle.walk.proofs.stmt.stmts_form.Reads as stmts-form-reads
 

@@ -11,7 +11,7 @@ use Rattle.walk.proofs.stmt.line_head.Tie as tie
 use Rattle.walk.proofs.stmt.line_head.Reads as reads
 use Rattle.walk.proofs.stmt.line_head.Lts as lts
 use Rattle.recorder.proofs.word.payload_at.Reads as payload-at-reads
-use Rattle.sheet.proofs.expr.take_word.Reads as take-word-reads
+use Rattle.sheet.proofs.leaf.take_word.Reads as take-word-reads
 use Rattle.walk.proofs.stmt.fits.Reads as fits-reads
 
 -- src/stmt.rt:212:9

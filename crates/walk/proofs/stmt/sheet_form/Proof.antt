@@ -7,7 +7,7 @@ use Rattle.walk.proofs.stmt.sheet_form.Tie as tie
 use Rattle.walk.proofs.stmt.sheet_form.Reads as reads
 use Rattle.walk.proofs.stmt.sheet_form.Lts as lts
 use Rattle.recorder.proofs.word.payload_at.Reads as payload-at-reads
-use Rattle.sheet.proofs.expr.take_word.Reads as take-word-reads
+use Rattle.sheet.proofs.leaf.take_word.Reads as take-word-reads
 use Rattle.walk.proofs.stmt.lines_form.Reads as lines-form-reads
 
 -- src/stmt.rt:276:9
