@@ -25,8 +25,8 @@ use Rattle.walk.proofs.Lines.{then-first}
 use Rattle.walk.proofs.Within.{Walked, walked, sheet-within}
 
 -- a walk that comes to its end has read at least n words
-record Reads (n p : ℕ) (w : Walk) : Type 0 where
-  past : (q : ℕ) → w ≡ Behind q → p + n ≤ q
+pub record Reads (n p : ℕ) (w : Walk) : Type 0 where
+  pub past : (q : ℕ) → w ≡ Behind q → p + n ≤ q
 
 reads-then : (a b p : ℕ) (w : Walk) (f : ℕ → Walk) → Reads a p w → ((q : ℕ) → Reads b q (f q)) → Reads (a + b) p (then w f)
 reads-then a b p w f x y = record { past = λ q e. let h = then-first (then w f) w f q refl e in omega (arith, x .past (h .0) (h .1), y (h .0) .past q (h .2)) }
@@ -46,7 +46,7 @@ from-ends : (s : List ℕ) (p : ℕ) (w : Walk) → Ends s p w → Reads 0 p w
 from-ends s p w h = record { past = λ q e. let g : Ends s p (Behind q) = rw e at h in omega (arith, g .steps .later) }
 
 module _ (s : List ℕ) where
-  word-reads : (k n p : ℕ) → 0 < k → Reads 1 p (takeWord s k n p)
+  pub word-reads : (k n p : ℕ) → 0 < k → Reads 1 p (takeWord s k n p)
   unfolding takeWord
   word-reads k n p h = record {
     past = λ q e.
@@ -78,7 +78,7 @@ module _ (s t : List ℕ) where
   unfolding lineForm
   line-reads base p = reads-then 1 2 p _ _ (head-reads base p) (λ q. reads-then 1 1 q _ _ (label-reads s (lineOf s t base p) q) (λ r. list-reads (lineOf s t base p) r))
 
-  end-here : (base p q : ℕ) → endForm s t base p ≡ Behind q → p ≡ q
+  pub end-here : (base p q : ℕ) → endForm s t base p ≡ Behind q → p ≡ q
   unfolding endForm
   end-here base p q e = go (ltb p (length s)) (ltb base (length t)) e
     where

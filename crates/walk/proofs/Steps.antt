@@ -85,10 +85,10 @@ module _ (s : List ℕ) where
   unfolding takeWord
   word-ends k n p = pick-ends p (both (eqb (kindAt s p) k) (ltb (payloadAt s p) n)) _ _ (behind-ends p _ (to-next s p)) (bad-word p)
 
-  absent-or : (p : ℕ) (g : ℕ → Walk) → Ends s p (g p) → Ends s p (choose (isAbsent s p) (absentForm s) g p)
+  pub absent-or : (p : ℕ) (g : ℕ → Walk) → Ends s p (g p) → Ends s p (choose (isAbsent s p) (absentForm s) g p)
   absent-or p g h = choose-ends p (isAbsent s p) (absentForm s) g (word-ends 2 1 p) h
 
-  non-empty-ends : (p : ℕ) → Ends s p (nonEmptyForm s p)
+  pub non-empty-ends : (p : ℕ) → Ends s p (nonEmptyForm s p)
   unfolding nonEmptyForm
   non-empty-ends p = back-ends p _ _ (word-ends 4 16777216 p) (λ q h. pick-ends p (eqb (payloadAt s p) 0) _ _ (bad-word p) (behind-ends p q h))
 
@@ -100,22 +100,22 @@ module _ (s : List ℕ) where
   unfolding lowForm
   low-ends e p = back-ends p _ _ (word-ends 11 65536 p) (λ q h. pick-ends p (lowFits e (payloadAt s p)) _ _ (behind-ends p q h) (bad-word p))
 
-  number-ends : (p : ℕ) → Ends s p (numberForm s p)
+  pub number-ends : (p : ℕ) → Ends s p (numberForm s p)
   unfolding numberForm
   number-ends p = then-ends p _ _ (word-ends 10 257 p) (λ q. then-ends q _ _ (high-ends _ q) (λ r. low-ends _ r))
 
-  head-ends : (c : Sort) (p : ℕ) → Ends s p (headForm s c p)
+  pub head-ends : (c : Sort) (p : ℕ) → Ends s p (headForm s c p)
   head-ends c p = pick-ends p (both (eqb (kindAt s p) (nodeKind c)) (mayStand c (payloadAt s p))) _ _ (behind-ends p _ (to-next s p)) (bad-word p)
 
   pub range-ends : (line : Line) (p : ℕ) → Ends s p (rangeForm s line p)
   unfolding rangeForm
   range-ends line p = back-ends p _ _ (word-ends 1 16777216 p) (λ q h. pick-ends p (inLine line (rangeAt s p)) _ _ (behind-ends p q h) (bad-range p))
 
-  text-ends : (line : Line) (p : ℕ) → Ends s p (textForm s line p)
+  pub text-ends : (line : Line) (p : ℕ) → Ends s p (textForm s line p)
   unfolding textForm
   text-ends line p = back-ends p _ _ (range-ends line p) (λ q h. pick-ends p (hasUnit (rangeAt s p)) _ _ (behind-ends p q h) (bad-range p))
 
-  datum-ends : (line : Line) (p : ℕ) → Ends s p (datumForm s line p)
+  pub datum-ends : (line : Line) (p : ℕ) → Ends s p (datumForm s line p)
   unfolding datumForm
   datum-ends line p = back-ends p _ _ (range-ends line p) (λ q h. back-ends p _ _ (from-later p q _ h (word-ends 5 2 q)) (λ r k. pick-ends p (lacksUnit (payloadAt s q) (rangeAt s p)) _ _ (bad-range p) (behind-ends p r k)))
 
@@ -124,7 +124,7 @@ module _ (s : List ℕ) where
   label-ends line p = absent-or p (λ q. then (rangeForm s line q) (λ r. takeWord s 3 65536 r)) (then-ends p _ _ (range-ends line p) (λ q. word-ends 3 65536 q))
 
   module _ (t : List ℕ) (line : Line) where
-    name-ends : (p : ℕ) → Ends s p (nameForm s t line p)
+    pub name-ends : (p : ℕ) → Ends s p (nameForm s t line p)
     unfolding nameForm
     name-ends p = back-ends p _ _ (range-ends line p) (λ q h. pick-ends p (isNameRange s t line (rangeAt s p)) _ _ (behind-ends p q h) (bad-range p))
 

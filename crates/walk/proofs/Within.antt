@@ -50,7 +50,7 @@ module _ (s t : List ℕ) (line : Line) where
   node-offence left c p o e = let g : Ends s p (Stops o) = rw e at (node-ends s t line left c p) in g .steps
 
 module _ (s t : List ℕ) where
-  head-ends : (base p : ℕ) → Ends s p (lineHead s t base p)
+  pub head-ends : (base p : ℕ) → Ends s p (lineHead s t base p)
   unfolding lineHead
   head-ends base p = back-ends s p _ _ (word-ends s 16 4096 p) (λ q h. pick-ends s p (leb (base + payloadAt s p) (length t)) _ _ (behind-ends s p q h) (record { steps = here s p }))
 

@@ -9,15 +9,16 @@ use sheet::form::Sort;
 use sheet::form::Times;
 use sheet::form::Walk;
 use sheet::leaf::take_word;
+ghost use mathlib.Core.Path.{_≡_};
 ghost use Prim.Native.Nat.{_-_};
-ghost use Rattle.sheet.specs.Reach.{Reaches, lineFrom};
+ghost use Rattle.sheet.specs.Reach.{placeOf, Decides, Reaches, lineFrom};
 ghost use Rattle.sheet.specs.Table.{ownRange};
 ghost use Rattle.sheet.specs.Form.{itemForm, pairForm, listForm, fieldForm, fieldsForm, bodyForm, nodeForm, lineForm, linesForm, sheetForm};
 ghost use Rattle.sheet.specs.Parts.{fieldsFrom};
 
 // The place that a walk ends at, or 0.
 fn ends(w: Walk) -> usize
-    ensures { λ r. ⌜ Reaches r w ⌝ }
+    ensures { λ r. ⌜ r ≡ placeOf w ⌝ }
 {
     match w {
         Walk::Behind(p) => p,
@@ -34,7 +35,7 @@ fn source_ends(
     left: usize,
     at: usize,
 ) -> usize
-    ensures { λ r. ⌜ Reaches r (itemForm (now (sheet .entry)) (now (text .entry)) (lineFrom base len) (nodeForm (now (sheet .entry)) (now (text .entry)) (lineFrom base len) left) Item.Source at) ⌝ }
+    ensures { λ r. ⌜ Reaches at r (itemForm (now (sheet .entry)) (now (text .entry)) (lineFrom base len) (nodeForm (now (sheet .entry)) (now (text .entry)) (lineFrom base len) left) Item.Source at) ⌝ }
 {
     let p = ends(take_word(sheet, 7, 3, at));
     if p == 0 {
@@ -59,7 +60,7 @@ fn element_ends(
     left: usize,
     at: usize,
 ) -> usize
-    ensures { λ r. ⌜ Reaches r (itemForm (now (sheet .entry)) (now (text .entry)) (lineFrom base len) (nodeForm (now (sheet .entry)) (now (text .entry)) (lineFrom base len) left) Item.Element at) ⌝ }
+    ensures { λ r. ⌜ Reaches at r (itemForm (now (sheet .entry)) (now (text .entry)) (lineFrom base len) (nodeForm (now (sheet .entry)) (now (text .entry)) (lineFrom base len) left) Item.Element at) ⌝ }
 {
     let p = ends(take_word(sheet, 8, 3, at));
     if p == 0 {
@@ -80,7 +81,7 @@ fn item_ends(
     item: Item,
     at: usize,
 ) -> usize
-    ensures { λ r. ⌜ Reaches r (itemForm (now (sheet .entry)) (now (text .entry)) (lineFrom base len) (nodeForm (now (sheet .entry)) (now (text .entry)) (lineFrom base len) left) item at) ⌝ }
+    ensures { λ r. ⌜ Reaches at r (itemForm (now (sheet .entry)) (now (text .entry)) (lineFrom base len) (nodeForm (now (sheet .entry)) (now (text .entry)) (lineFrom base len) left) item at) ⌝ }
 {
     match item {
         Item::Nothing => at,
@@ -114,7 +115,7 @@ fn pair_ends(
     b: Item,
     at: usize,
 ) -> usize
-    ensures { λ r. ⌜ Reaches r (pairForm (now (sheet .entry)) (now (text .entry)) (lineFrom base len) (nodeForm (now (sheet .entry)) (now (text .entry)) (lineFrom base len) left) a b at) ⌝ }
+    ensures { λ r. ⌜ Reaches at r (pairForm (now (sheet .entry)) (now (text .entry)) (lineFrom base len) (nodeForm (now (sheet .entry)) (now (text .entry)) (lineFrom base len) left) a b at) ⌝ }
 {
     let p = item_ends(&*sheet, &*text, base, len, left, a, at);
     if p == 0 {
@@ -137,7 +138,7 @@ fn list_ends(
     b: Item,
     at: usize,
 ) -> usize
-    ensures { λ r. ⌜ Reaches r (listForm (now (sheet .entry)) (now (text .entry)) (lineFrom base len) (pairForm (now (sheet .entry)) (now (text .entry)) (lineFrom base len) (nodeForm (now (sheet .entry)) (now (text .entry)) (lineFrom base len) left) a b) at) ⌝ }
+    ensures { λ r. ⌜ Reaches at r (listForm (now (sheet .entry)) (now (text .entry)) (lineFrom base len) (pairForm (now (sheet .entry)) (now (text .entry)) (lineFrom base len) (nodeForm (now (sheet .entry)) (now (text .entry)) (lineFrom base len) left) a b) at) ⌝ }
 {
     let q = ends(take_word(sheet, 4, 16777216, at));
     if q == 0 {
@@ -166,7 +167,7 @@ fn field_ends(
     f: Field,
     at: usize,
 ) -> usize
-    ensures { λ r. ⌜ Reaches r (fieldForm (now (sheet .entry)) (now (text .entry)) (lineFrom base len) (nodeForm (now (sheet .entry)) (now (text .entry)) (lineFrom base len) left) f at) ⌝ }
+    ensures { λ r. ⌜ Reaches at r (fieldForm (now (sheet .entry)) (now (text .entry)) (lineFrom base len) (nodeForm (now (sheet .entry)) (now (text .entry)) (lineFrom base len) left) f at) ⌝ }
 {
     let a = f.first;
     let b = f.second;
@@ -209,7 +210,7 @@ fn fields_ends(
     e: usize,
     at: usize,
 ) -> usize
-    ensures { λ r. ⌜ Reaches r (fieldsForm (now (sheet .entry)) (now (text .entry)) (lineFrom base len) (nodeForm (now (sheet .entry)) (now (text .entry)) (lineFrom base len) left) (fieldsFrom i (e - i)) at) ⌝ }
+    ensures { λ r. ⌜ Reaches at r (fieldsForm (now (sheet .entry)) (now (text .entry)) (lineFrom base len) (nodeForm (now (sheet .entry)) (now (text .entry)) (lineFrom base len) left) (fieldsFrom i (e - i)) at) ⌝ }
 {
     let mut p = at;
     let mut j = i;
@@ -235,7 +236,7 @@ fn own_ends(
     k: u32,
     at: usize,
 ) -> usize
-    ensures { λ r. ⌜ Reaches r (itemForm (now (sheet .entry)) (now (text .entry)) (lineFrom base len) (nodeForm (now (sheet .entry)) (now (text .entry)) (lineFrom base len) 0) (ownRange c k) at) ⌝ }
+    ensures { λ r. ⌜ Reaches at r (itemForm (now (sheet .entry)) (now (text .entry)) (lineFrom base len) (nodeForm (now (sheet .entry)) (now (text .entry)) (lineFrom base len) 0) (ownRange c k) at) ⌝ }
 {
     match c {
         Sort::Expr => expr_own_ends(&*sheet, &*text, base, len, k, at),
@@ -246,7 +247,7 @@ fn own_ends(
 }
 
 fn expr_own_ends(sheet: &[u32], text: &[u16], base: usize, len: usize, k: u32, at: usize) -> usize
-    ensures { λ r. ⌜ Reaches r (itemForm (now (sheet .entry)) (now (text .entry)) (lineFrom base len) (nodeForm (now (sheet .entry)) (now (text .entry)) (lineFrom base len) 0) (ownRange Sort.Expr k) at) ⌝ }
+    ensures { λ r. ⌜ Reaches at r (itemForm (now (sheet .entry)) (now (text .entry)) (lineFrom base len) (nodeForm (now (sheet .entry)) (now (text .entry)) (lineFrom base len) 0) (ownRange Sort.Expr k) at) ⌝ }
 {
     if k == 0 {
         return ends(sheet::leaf::name_form(&*sheet, &*text, Line { base, len }, at));
@@ -268,7 +269,7 @@ fn body_ends(
     k: u32,
     at: usize,
 ) -> usize
-    ensures { λ r. ⌜ Reaches r (bodyForm (now (sheet .entry)) (now (text .entry)) (lineFrom base len) (nodeForm (now (sheet .entry)) (now (text .entry)) (lineFrom base len) left) c k at) ⌝ }
+    ensures { λ r. ⌜ Reaches at r (bodyForm (now (sheet .entry)) (now (text .entry)) (lineFrom base len) (nodeForm (now (sheet .entry)) (now (text .entry)) (lineFrom base len) left) c k at) ⌝ }
 {
     let p = own_ends(&*sheet, &*text, base, len, c, k, at);
     if p == 0 {
@@ -290,7 +291,7 @@ fn node_ends(
     c: Sort,
     at: usize,
 ) -> usize
-    ensures { λ r. ⌜ Reaches r (nodeForm (now (sheet .entry)) (now (text .entry)) (lineFrom base len) left c at) ⌝ }
+    ensures { λ r. ⌜ Reaches at r (nodeForm (now (sheet .entry)) (now (text .entry)) (lineFrom base len) left c at) ⌝ }
 {
     let p = ends(sheet::leaf::head_form(sheet, c, at));
     if p == 0 {
@@ -309,7 +310,7 @@ fn node_ends(
 
 // A line's statements: a count, and so many, with 64 depths.
 fn stmts_ends(sheet: &[u32], text: &[u16], base: usize, len: usize, at: usize) -> usize
-    ensures { λ r. ⌜ Reaches r (listForm (now (sheet .entry)) (now (text .entry)) (lineFrom base len) (nodeForm (now (sheet .entry)) (now (text .entry)) (lineFrom base len) 64 Sort.Stmt) at) ⌝ }
+    ensures { λ r. ⌜ Reaches at r (listForm (now (sheet .entry)) (now (text .entry)) (lineFrom base len) (nodeForm (now (sheet .entry)) (now (text .entry)) (lineFrom base len) 64 Sort.Stmt) at) ⌝ }
 {
     list_ends(
         &*sheet,
@@ -324,7 +325,7 @@ fn stmts_ends(sheet: &[u32], text: &[u16], base: usize, len: usize, at: usize) -
 }
 
 fn line_ends(sheet: &[u32], text: &[u16], base: usize, at: usize) -> usize
-    ensures { λ r. ⌜ Reaches r (lineForm (now (sheet .entry)) (now (text .entry)) base at) ⌝ }
+    ensures { λ r. ⌜ Reaches at r (lineForm (now (sheet .entry)) (now (text .entry)) base at) ⌝ }
 {
     let p = ends(crate::stmt::line_head(sheet, text, base, at));
     if p == 0 {
@@ -339,7 +340,7 @@ fn line_ends(sheet: &[u32], text: &[u16], base: usize, at: usize) -> usize
 }
 
 fn lines_ends(sheet: &[u32], text: &[u16], n: u32, at: usize) -> usize
-    ensures { λ r. ⌜ Reaches r (linesForm (now (sheet .entry)) (now (text .entry)) n 0 at) ⌝ }
+    ensures { λ r. ⌜ Reaches at r (linesForm (now (sheet .entry)) (now (text .entry)) n 0 at) ⌝ }
 {
     let mut base: usize = 0;
     let mut p = at;
@@ -359,7 +360,7 @@ fn lines_ends(sheet: &[u32], text: &[u16], n: u32, at: usize) -> usize
 
 // A whole sheet.
 pub fn sheet_ends(sheet: &[u32], text: &[u16]) -> usize
-    ensures { λ r. ⌜ Reaches r (sheetForm (now (sheet .entry)) (now (text .entry))) ⌝ }
+    ensures { λ r. ⌜ Decides r (sheetForm (now (sheet .entry)) (now (text .entry))) ⌝ }
 {
     let p = ends(take_word(sheet, 15, 16777216, 0));
     if p == 0 {

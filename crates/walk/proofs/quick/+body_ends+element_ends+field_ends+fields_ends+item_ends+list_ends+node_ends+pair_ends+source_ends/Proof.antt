@@ -5,12 +5,12 @@ use Prim.Native.Nat.{_+_, _-_, _*_, _≤_}
 use lib.ListN.{length}
 use Rattle.sheet.specs.Table.{ownRange}
 use Rattle.sheet.specs.Parts.{fieldsFrom}
-use Rattle.sheet.specs.Form.{itemForm, pairForm, repeatForm, listForm, timesForm, fieldForm, fieldsForm, nodeForm}
+use Rattle.sheet.specs.Form.{takeWord, nameForm, itemForm, pairForm, repeatForm, listForm, timesForm, fieldForm, fieldsForm, nodeForm}
 use Rattle.sheet.specs.Reach.{lineFrom}
 use Rattle.sheet.proofs.Walks.{told}
-use Rattle.walk.proofs.Steps.{word-ends, item-ends as item-step, pair-ends as pair-step, field-ends as field-step, node-ends as node-step}
+use Rattle.walk.proofs.Steps.{word-ends, absent-or, non-empty-ends, number-ends, head-ends as head-step, range-ends, text-ends, datum-ends, name-ends, item-ends as item-step, pair-ends as pair-step, field-ends as field-step, node-ends as node-step}
 use Rattle.walk.proofs.Cycle.{head-moves, source-keyboard, source-prompt, source-file, element-expr, element-range, repeat-step, repeat-end, fields-step, fields-end}
-use Rattle.walk.proofs.Reaches.{nowhere, reach-end, reach-same, reach-then, reach-later, reach-yes, reach-no, reach-body, reach-node}
+use Rattle.walk.proofs.Reaches.{reach-leaf, reach-end, reach-same, reach-stop, reach-again, reach-then, reach-later, reach-yes, reach-no, own-stops, reach-body, head-stops, depth-stops, fseek-stops, reach-node, repeat-stops, fields-stops}
 use Prim.Native.Nat.{ℕ, _<_}
 use borrow.Fn.Kinds.{In}
 use borrow.Fn.PlainCycle.{Measures, is, falls, and}
@@ -42,6 +42,11 @@ use Rattle.walk.proofs.quick.source_ends.Reads as source-ends
 use Rattle.walk.proofs.quick.source_ends.Kinds as source-ends-kinds
 use Rattle.walk.proofs.quick.+body_ends+element_ends+field_ends+fields_ends+item_ends+list_ends+node_ends+pair_ends+source_ends.Lts-source_ends as source-ends-lts
 use Rattle.recorder.proofs.word.payload_at.Reads as payload-at-reads
+use Rattle.sheet.proofs.form.case_of.Reads as case-of-reads
+use Rattle.sheet.proofs.form.field_at.Reads as field-at-reads
+use Rattle.sheet.proofs.form.is_fseek.Reads as is-fseek-reads
+use Rattle.sheet.proofs.form.start_after.Reads as start-after-reads
+use Rattle.sheet.proofs.form.start_at.Reads as start-at-reads
 use Rattle.sheet.proofs.leaf.datum_form.Reads as datum-form-reads
 use Rattle.sheet.proofs.leaf.head_form.Reads as head-form-reads
 use Rattle.sheet.proofs.leaf.is_absent.Reads as is-absent-reads
@@ -53,11 +58,6 @@ use Rattle.sheet.proofs.leaf.optional_name_form.Reads as optional-name-form-rea
 use Rattle.sheet.proofs.leaf.range_form.Reads as range-form-reads
 use Rattle.sheet.proofs.leaf.take_word.Reads as take-word-reads
 use Rattle.sheet.proofs.leaf.text_form.Reads as text-form-reads
-use Rattle.sheet.proofs.form.case_of.Reads as case-of-reads
-use Rattle.sheet.proofs.form.field_at.Reads as field-at-reads
-use Rattle.sheet.proofs.form.is_fseek.Reads as is-fseek-reads
-use Rattle.sheet.proofs.form.start_after.Reads as start-after-reads
-use Rattle.sheet.proofs.form.start_at.Reads as start-at-reads
 use Rattle.walk.proofs.quick.ends.Reads as ends-reads
 use Rattle.walk.proofs.quick.own_ends.Reads as own-ends-reads
 use Rattle.walk.proofs.quick.+body_ends+element_ends+field_ends+fields_ends+item_ends+list_ends+node_ends+pair_ends+source_ends.{
@@ -165,7 +165,7 @@ abbrev source-ends-below : ℕ → In 2 source-ends-kinds.ps
 source-ends-below t =
     and 2 source-ends-kinds.ps (falls 2 source-ends-kinds.ps _<_ μ-source-ends t) source-ends.Pre
 
--- src/quick.rt:273:9
+-- src/quick.rt:274:9
 body-ends-own-ends-requires : (t : ℕ) → body-ends-lts.Need-own-ends-requires (
   own-ends-reads.Asked,
   own-ends-reads.Learnt,
@@ -180,7 +180,7 @@ body-ends-own-ends-requires : (t : ℕ) → body-ends-lts.Need-own-ends-requires
 ) (body-ends-at t) body-ends.Post
 body-ends-own-ends-requires t c κs = search needs
 
--- src/quick.rt:275:9
+-- src/quick.rt:276:9
 body-ends-returns : (t : ℕ) → body-ends-lts.Need-returns (
   own-ends-reads.Asked,
   own-ends-reads.Learnt,
@@ -193,9 +193,9 @@ body-ends-returns : (t : ℕ) → body-ends-lts.Need-returns (
   fields-ends-below t,
   fields-ends.Post,
 ) (body-ends-at t) body-ends.Post
-body-ends-returns t c = nowhere _
+body-ends-returns t c = own-stops (c .before .before .before .before .args .sheet .now) (c .before .before .before .before .args .text .now) (lineFrom (c .before .before .before .before .args .base) (c .before .before .before .before .args .len)) (c .before .before .before .before .args .left) _ _ _ _ (c .before .own-ends .ensures) (c .if1 .taken)
 
--- src/quick.rt:277:9
+-- src/quick.rt:278:9
 body-ends-case-of-requires : (t : ℕ) → body-ends-lts.Need-case-of-requires (
   own-ends-reads.Asked,
   own-ends-reads.Learnt,
@@ -210,7 +210,7 @@ body-ends-case-of-requires : (t : ℕ) → body-ends-lts.Need-case-of-requires (
 ) (body-ends-at t) body-ends.Post
 body-ends-case-of-requires t c κs = search needs
 
--- src/quick.rt:278:9
+-- src/quick.rt:279:9
 body-ends-start-at-requires : (t : ℕ) → body-ends-lts.Need-start-at-requires (
   own-ends-reads.Asked,
   own-ends-reads.Learnt,
@@ -225,7 +225,7 @@ body-ends-start-at-requires : (t : ℕ) → body-ends-lts.Need-start-at-requires
 ) (body-ends-at t) body-ends.Post
 body-ends-start-at-requires t c κs = search needs
 
--- src/quick.rt:279:9
+-- src/quick.rt:280:9
 body-ends-start-after-requires : (t : ℕ) → body-ends-lts.Need-start-after-requires (
   own-ends-reads.Asked,
   own-ends-reads.Learnt,
@@ -240,7 +240,7 @@ body-ends-start-after-requires : (t : ℕ) → body-ends-lts.Need-start-after-re
 ) (body-ends-at t) body-ends.Post
 body-ends-start-after-requires t c κs = search needs
 
--- src/quick.rt:280:5
+-- src/quick.rt:281:5
 body-ends-fields-ends-requires : (t : ℕ) → body-ends-lts.Need-fields-ends-requires (
   own-ends-reads.Asked,
   own-ends-reads.Learnt,
@@ -255,7 +255,7 @@ body-ends-fields-ends-requires : (t : ℕ) → body-ends-lts.Need-fields-ends-re
 ) (body-ends-at t) body-ends.Post
 body-ends-fields-ends-requires t c κs = omega (arith, (c .before .before .before .before .before .before .before .pre .0), reach-later (c .before .before .before .before .before .before .before .args .sheet .now) _ _ _ (item-step (c .before .before .before .before .before .before .before .args .sheet .now) (c .before .before .before .before .before .before .before .args .text .now) (lineFrom (c .before .before .before .before .before .before .before .args .base) (c .before .before .before .before .before .before .before .args .len)) (nodeForm (c .before .before .before .before .before .before .before .args .sheet .now) (c .before .before .before .before .before .before .before .args .text .now) (lineFrom (c .before .before .before .before .before .before .before .args .base) (c .before .before .before .before .before .before .before .args .len)) 0) (node-step (c .before .before .before .before .before .before .before .args .sheet .now) (c .before .before .before .before .before .before .before .args .text .now) (lineFrom (c .before .before .before .before .before .before .before .args .base) (c .before .before .before .before .before .before .before .args .len)) 0) (ownRange (c .before .before .before .before .before .before .before .args .c) (c .before .before .before .before .before .before .before .args .k)) (c .before .before .before .before .before .before .before .args .at)) (c .before .before .before .before .own-ends .ensures) (c .before .before .before .if1 .left))
 
--- src/quick.rt:261:1
+-- src/quick.rt:262:1
 body-ends-returns-2 : (t : ℕ) → body-ends-lts.Need-returns-2 (
   own-ends-reads.Asked,
   own-ends-reads.Learnt,
@@ -270,7 +270,7 @@ body-ends-returns-2 : (t : ℕ) → body-ends-lts.Need-returns-2 (
 ) (body-ends-at t) body-ends.Post
 body-ends-returns-2 t c = reach-body (c .before .before .before .before .before .before .before .before .args .sheet .now) (c .before .before .before .before .before .before .before .before .args .text .now) (lineFrom (c .before .before .before .before .before .before .before .before .args .base) (c .before .before .before .before .before .before .before .before .args .len)) _ _ _ _ _ _ _ _ _ (c .before .before .before .before .before .own-ends .ensures) (c .before .before .before .before .if1 .left) (c .before .before .before .case-of .ensures) (c .before .before .start-at .ensures) (c .before .start-after .ensures) (c .fields-ends .ensures)
 
--- src/quick.rt:64:18
+-- src/quick.rt:65:18
 element-ends-take-word-requires : (t : ℕ) → element-ends-lts.Need-take-word-requires (
   take-word-reads.Asked,
   take-word-reads.Learnt,
@@ -285,7 +285,7 @@ element-ends-take-word-requires : (t : ℕ) → element-ends-lts.Need-take-word-
 ) (element-ends-at t) element-ends.Post
 element-ends-take-word-requires t c κs = search needs
 
--- src/quick.rt:64:9
+-- src/quick.rt:65:9
 element-ends-ends-requires : (t : ℕ) → element-ends-lts.Need-ends-requires (
   take-word-reads.Asked,
   take-word-reads.Learnt,
@@ -300,7 +300,7 @@ element-ends-ends-requires : (t : ℕ) → element-ends-lts.Need-ends-requires (
 ) (element-ends-at t) element-ends.Post
 element-ends-ends-requires t c κs = search needs
 
--- src/quick.rt:66:9
+-- src/quick.rt:67:9
 element-ends-returns : (t : ℕ) → element-ends-lts.Need-returns (
   take-word-reads.Asked,
   take-word-reads.Learnt,
@@ -313,9 +313,10 @@ element-ends-returns : (t : ℕ) → element-ends-lts.Need-returns (
   range-form-reads.Asked,
   range-form-reads.Learnt,
 ) (element-ends-at t) element-ends.Post
-element-ends-returns t c = nowhere _
+unfolding itemForm
+element-ends-returns t c = reach-stop _ _ _ _ (reach-leaf (c .before .before .before .before .before .args .sheet .now) _ _ _ _ (word-ends (c .before .before .before .before .before .args .sheet .now) 8 3 (c .before .before .before .before .before .args .at)) (c .before .before .take-word .ensures) (c .before .ends .ensures)) (c .if1 .taken)
 
--- src/quick.rt:68:8
+-- src/quick.rt:69:8
 element-ends-payload-at-requires : (t : ℕ) → element-ends-lts.Need-payload-at-requires (
   take-word-reads.Asked,
   take-word-reads.Learnt,
@@ -330,7 +331,7 @@ element-ends-payload-at-requires : (t : ℕ) → element-ends-lts.Need-payload-a
 ) (element-ends-at t) element-ends.Post
 element-ends-payload-at-requires t c κs = search needs
 
--- src/quick.rt:69:9
+-- src/quick.rt:70:9
 element-ends-node-ends-requires : (t : ℕ) → element-ends-lts.Need-node-ends-requires (
   take-word-reads.Asked,
   take-word-reads.Learnt,
@@ -343,9 +344,9 @@ element-ends-node-ends-requires : (t : ℕ) → element-ends-lts.Need-node-ends-
   range-form-reads.Asked,
   range-form-reads.Learnt,
 ) (element-ends-at t) element-ends.Post
-element-ends-node-ends-requires t c κs = omega (arith, (c .before .before .before .before .before .before .before .pre .0), reach-later (c .before .before .before .before .before .before .before .args .sheet .now) _ _ _ (word-ends (c .before .before .before .before .before .before .before .args .sheet .now) 8 3 (c .before .before .before .before .before .before .before .args .at)) (reach-same _ _ _ (c .before .before .before .before .take-word .ensures) (c .before .before .before .ends .ensures)) (c .before .before .if1 .left))
+element-ends-node-ends-requires t c κs = omega (arith, (c .before .before .before .before .before .before .before .pre .0), reach-later (c .before .before .before .before .before .before .before .args .sheet .now) _ _ _ (word-ends (c .before .before .before .before .before .before .before .args .sheet .now) 8 3 (c .before .before .before .before .before .before .before .args .at)) (reach-leaf (c .before .before .before .before .before .before .before .args .sheet .now) _ _ _ _ (word-ends (c .before .before .before .before .before .before .before .args .sheet .now) 8 3 (c .before .before .before .before .before .before .before .args .at)) (c .before .before .before .before .take-word .ensures) (c .before .before .before .ends .ensures)) (c .before .before .if1 .left))
 
--- src/quick.rt:69:9
+-- src/quick.rt:70:9
 element-ends-returns-2 : (t : ℕ) → element-ends-lts.Need-returns-2 (
   take-word-reads.Asked,
   take-word-reads.Learnt,
@@ -359,9 +360,9 @@ element-ends-returns-2 : (t : ℕ) → element-ends-lts.Need-returns-2 (
   range-form-reads.Learnt,
 ) (element-ends-at t) element-ends.Post
 unfolding itemForm
-element-ends-returns-2 t c = reach-then _ _ _ _ (reach-same _ _ _ (c .before .before .before .before .before .take-word .ensures) (c .before .before .before .before .ends .ensures)) (c .before .before .before .if1 .left) (reach-same _ _ _ (element-expr (c .before .before .before .before .before .before .before .before .args .sheet .now) (c .before .before .before .before .before .before .before .before .args .text .now) (lineFrom (c .before .before .before .before .before .before .before .before .args .base) (c .before .before .before .before .before .before .before .before .args .len)) (nodeForm (c .before .before .before .before .before .before .before .before .args .sheet .now) (c .before .before .before .before .before .before .before .before .args .text .now) (lineFrom (c .before .before .before .before .before .before .before .before .args .base) (c .before .before .before .before .before .before .before .before .args .len)) (c .before .before .before .before .before .before .before .before .args .left)) _ _ _ _ (c .before .before .payload-at .ensures) (c .before .if2 .taken) refl) (c .node-ends .ensures))
+element-ends-returns-2 t c = reach-then _ _ _ _ _ (reach-leaf (c .before .before .before .before .before .before .before .before .args .sheet .now) _ _ _ _ (word-ends (c .before .before .before .before .before .before .before .before .args .sheet .now) 8 3 (c .before .before .before .before .before .before .before .before .args .at)) (c .before .before .before .before .before .take-word .ensures) (c .before .before .before .before .ends .ensures)) (c .before .before .before .if1 .left) (reach-same _ _ _ _ (element-expr (c .before .before .before .before .before .before .before .before .args .sheet .now) (c .before .before .before .before .before .before .before .before .args .text .now) (lineFrom (c .before .before .before .before .before .before .before .before .args .base) (c .before .before .before .before .before .before .before .before .args .len)) (nodeForm (c .before .before .before .before .before .before .before .before .args .sheet .now) (c .before .before .before .before .before .before .before .before .args .text .now) (lineFrom (c .before .before .before .before .before .before .before .before .args .base) (c .before .before .before .before .before .before .before .before .args .len)) (c .before .before .before .before .before .before .before .before .args .left)) _ _ _ _ (c .before .before .payload-at .ensures) (c .before .if2 .taken) refl) (c .node-ends .ensures))
 
--- src/quick.rt:71:10
+-- src/quick.rt:72:10
 element-ends-range-form-requires : (t : ℕ) → element-ends-lts.Need-range-form-requires (
   take-word-reads.Asked,
   take-word-reads.Learnt,
@@ -376,7 +377,7 @@ element-ends-range-form-requires : (t : ℕ) → element-ends-lts.Need-range-for
 ) (element-ends-at t) element-ends.Post
 element-ends-range-form-requires t c κs = search needs
 
--- src/quick.rt:71:5
+-- src/quick.rt:72:5
 element-ends-ends-requires-2 : (t : ℕ) → element-ends-lts.Need-ends-requires-2 (
   take-word-reads.Asked,
   take-word-reads.Learnt,
@@ -391,7 +392,7 @@ element-ends-ends-requires-2 : (t : ℕ) → element-ends-lts.Need-ends-requires
 ) (element-ends-at t) element-ends.Post
 element-ends-ends-requires-2 t c κs = search needs
 
--- src/quick.rt:54:1
+-- src/quick.rt:55:1
 element-ends-returns-3 : (t : ℕ) → element-ends-lts.Need-returns-3 (
   take-word-reads.Asked,
   take-word-reads.Learnt,
@@ -405,9 +406,9 @@ element-ends-returns-3 : (t : ℕ) → element-ends-lts.Need-returns-3 (
   range-form-reads.Learnt,
 ) (element-ends-at t) element-ends.Post
 unfolding itemForm
-element-ends-returns-3 t c = reach-then _ _ _ _ (reach-same _ _ _ (c .before .before .before .before .before .before .take-word .ensures) (c .before .before .before .before .before .ends .ensures)) (c .before .before .before .before .if1 .left) (reach-same _ _ _ (element-range (c .before .before .before .before .before .before .before .before .before .args .sheet .now) (c .before .before .before .before .before .before .before .before .before .args .text .now) (lineFrom (c .before .before .before .before .before .before .before .before .before .args .base) (c .before .before .before .before .before .before .before .before .before .args .len)) (nodeForm (c .before .before .before .before .before .before .before .before .before .args .sheet .now) (c .before .before .before .before .before .before .before .before .before .args .text .now) (lineFrom (c .before .before .before .before .before .before .before .before .before .args .base) (c .before .before .before .before .before .before .before .before .before .args .len)) (c .before .before .before .before .before .before .before .before .before .args .left)) _ _ _ _ (c .before .before .before .payload-at .ensures) (c .before .before .if2 .left) (c .before .range-form .ensures)) (c .ends2 .ensures))
+element-ends-returns-3 t c = reach-then _ _ _ _ _ (reach-leaf (c .before .before .before .before .before .before .before .before .before .args .sheet .now) _ _ _ _ (word-ends (c .before .before .before .before .before .before .before .before .before .args .sheet .now) 8 3 (c .before .before .before .before .before .before .before .before .before .args .at)) (c .before .before .before .before .before .before .take-word .ensures) (c .before .before .before .before .before .ends .ensures)) (c .before .before .before .before .if1 .left) (reach-same _ _ _ _ (element-range (c .before .before .before .before .before .before .before .before .before .args .sheet .now) (c .before .before .before .before .before .before .before .before .before .args .text .now) (lineFrom (c .before .before .before .before .before .before .before .before .before .args .base) (c .before .before .before .before .before .before .before .before .before .args .len)) (nodeForm (c .before .before .before .before .before .before .before .before .before .args .sheet .now) (c .before .before .before .before .before .before .before .before .before .args .text .now) (lineFrom (c .before .before .before .before .before .before .before .before .before .args .base) (c .before .before .before .before .before .before .before .before .before .args .len)) (c .before .before .before .before .before .before .before .before .before .args .left)) _ _ _ _ (c .before .before .before .payload-at .ensures) (c .before .before .if2 .left) refl) (reach-leaf (c .before .before .before .before .before .before .before .before .before .args .sheet .now) _ _ _ _ (range-ends (c .before .before .before .before .before .before .before .before .before .args .sheet .now) (lineFrom (c .before .before .before .before .before .before .before .before .before .args .base) (c .before .before .before .before .before .before .before .before .before .args .len)) _) (c .before .range-form .ensures) (c .ends2 .ensures)))
 
--- src/quick.rt:175:34
+-- src/quick.rt:176:34
 field-ends-enum-told : (t : ℕ) → field-ends-lts.Need-enum-told (
   pair-ends-below t,
   pair-ends.Post,
@@ -424,7 +425,7 @@ field-ends-enum-told : (t : ℕ) → field-ends-lts.Need-enum-told (
 ) (field-ends-at t) field-ends.Post
 field-ends-enum-told t c = search needs
 
--- src/quick.rt:175:24
+-- src/quick.rt:176:24
 field-ends-pair-ends-requires : (t : ℕ) → field-ends-lts.Need-pair-ends-requires (
   pair-ends-below t,
   pair-ends.Post,
@@ -441,7 +442,7 @@ field-ends-pair-ends-requires : (t : ℕ) → field-ends-lts.Need-pair-ends-requ
 ) (field-ends-at t) field-ends.Post
 field-ends-pair-ends-requires t c κs = omega (arith, (c .before .before .before .before .pre .0))
 
--- src/quick.rt:177:16
+-- src/quick.rt:178:16
 field-ends-enum-told-2 : (t : ℕ) → field-ends-lts.Need-enum-told-2 (
   pair-ends-below t,
   pair-ends.Post,
@@ -458,7 +459,7 @@ field-ends-enum-told-2 : (t : ℕ) → field-ends-lts.Need-enum-told-2 (
 ) (field-ends-at t) field-ends.Post
 field-ends-enum-told-2 t c = search needs
 
--- src/quick.rt:177:16
+-- src/quick.rt:178:16
 field-ends-is-absent-requires : (t : ℕ) → field-ends-lts.Need-is-absent-requires (
   pair-ends-below t,
   pair-ends.Post,
@@ -475,7 +476,7 @@ field-ends-is-absent-requires : (t : ℕ) → field-ends-lts.Need-is-absent-requ
 ) (field-ends-at t) field-ends.Post
 field-ends-is-absent-requires t c κs = search needs
 
--- src/quick.rt:178:22
+-- src/quick.rt:179:22
 field-ends-take-word-requires : (t : ℕ) → field-ends-lts.Need-take-word-requires (
   pair-ends-below t,
   pair-ends.Post,
@@ -492,7 +493,7 @@ field-ends-take-word-requires : (t : ℕ) → field-ends-lts.Need-take-word-requ
 ) (field-ends-at t) field-ends.Post
 field-ends-take-word-requires t c κs = search needs
 
--- src/quick.rt:178:17
+-- src/quick.rt:179:17
 field-ends-ends-requires : (t : ℕ) → field-ends-lts.Need-ends-requires (
   pair-ends-below t,
   pair-ends.Post,
@@ -509,7 +510,7 @@ field-ends-ends-requires : (t : ℕ) → field-ends-lts.Need-ends-requires (
 ) (field-ends-at t) field-ends.Post
 field-ends-ends-requires t c κs = search needs
 
--- src/quick.rt:180:17
+-- src/quick.rt:181:17
 field-ends-pair-ends-requires-2 : (t : ℕ) → field-ends-lts.Need-pair-ends-requires-2 (
   pair-ends-below t,
   pair-ends.Post,
@@ -526,7 +527,7 @@ field-ends-pair-ends-requires-2 : (t : ℕ) → field-ends-lts.Need-pair-ends-re
 ) (field-ends-at t) field-ends.Post
 field-ends-pair-ends-requires-2 t c κs = omega (arith, (c .before .before .before .before .before .before .pre .0))
 
--- src/quick.rt:183:34
+-- src/quick.rt:184:34
 field-ends-enum-told-3 : (t : ℕ) → field-ends-lts.Need-enum-told-3 (
   pair-ends-below t,
   pair-ends.Post,
@@ -543,7 +544,7 @@ field-ends-enum-told-3 : (t : ℕ) → field-ends-lts.Need-enum-told-3 (
 ) (field-ends-at t) field-ends.Post
 field-ends-enum-told-3 t c = search needs
 
--- src/quick.rt:183:24
+-- src/quick.rt:184:24
 field-ends-list-ends-requires : (t : ℕ) → field-ends-lts.Need-list-ends-requires (
   pair-ends-below t,
   pair-ends.Post,
@@ -560,7 +561,7 @@ field-ends-list-ends-requires : (t : ℕ) → field-ends-lts.Need-list-ends-requ
 ) (field-ends-at t) field-ends.Post
 field-ends-list-ends-requires t c κs = omega (arith, (c .before .before .before .before .pre .0))
 
--- src/quick.rt:185:26
+-- src/quick.rt:186:26
 field-ends-enum-told-4 : (t : ℕ) → field-ends-lts.Need-enum-told-4 (
   pair-ends-below t,
   pair-ends.Post,
@@ -577,7 +578,7 @@ field-ends-enum-told-4 : (t : ℕ) → field-ends-lts.Need-enum-told-4 (
 ) (field-ends-at t) field-ends.Post
 field-ends-enum-told-4 t c = search needs
 
--- src/quick.rt:185:26
+-- src/quick.rt:186:26
 field-ends-non-empty-form-requires : (t : ℕ) → field-ends-lts.Need-non-empty-form-requires (
   pair-ends-below t,
   pair-ends.Post,
@@ -594,7 +595,7 @@ field-ends-non-empty-form-requires : (t : ℕ) → field-ends-lts.Need-non-empty
 ) (field-ends-at t) field-ends.Post
 field-ends-non-empty-form-requires t c κs = search needs
 
--- src/quick.rt:185:17
+-- src/quick.rt:186:17
 field-ends-ends-requires-2 : (t : ℕ) → field-ends-lts.Need-ends-requires-2 (
   pair-ends-below t,
   pair-ends.Post,
@@ -611,7 +612,7 @@ field-ends-ends-requires-2 : (t : ℕ) → field-ends-lts.Need-ends-requires-2 (
 ) (field-ends-at t) field-ends.Post
 field-ends-ends-requires-2 t c κs = search needs
 
--- src/quick.rt:187:17
+-- src/quick.rt:188:17
 field-ends-returns : (t : ℕ) → field-ends-lts.Need-returns (
   pair-ends-below t,
   pair-ends.Post,
@@ -626,9 +627,10 @@ field-ends-returns : (t : ℕ) → field-ends-lts.Need-returns (
   non-empty-form-reads.Asked,
   non-empty-form-reads.Learnt,
 ) (field-ends-at t) field-ends.Post
-field-ends-returns t c = nowhere _
+unfolding fieldForm timesForm
+field-ends-returns t c = rw (c .before .before .before .enum-told4 .given .1) (reach-stop _ _ _ _ (reach-leaf (c .before .before .before .before .before .before .before .args .sheet .now) _ _ _ _ (non-empty-ends (c .before .before .before .before .before .before .before .args .sheet .now) (c .before .before .before .before .before .before .before .args .at)) (c .before .before .non-empty-form .ensures) (c .before .ends2 .ensures)) (c .if2 .taken))
 
--- src/quick.rt:189:13
+-- src/quick.rt:190:13
 field-ends-list-ends-requires-2 : (t : ℕ) → field-ends-lts.Need-list-ends-requires-2 (
   pair-ends-below t,
   pair-ends.Post,
@@ -645,7 +647,7 @@ field-ends-list-ends-requires-2 : (t : ℕ) → field-ends-lts.Need-list-ends-re
 ) (field-ends-at t) field-ends.Post
 field-ends-list-ends-requires-2 t c κs = omega (arith, (c .before .before .before .before .before .before .before .pre .0))
 
--- src/quick.rt:192:16
+-- src/quick.rt:193:16
 field-ends-enum-told-5 : (t : ℕ) → field-ends-lts.Need-enum-told-5 (
   pair-ends-below t,
   pair-ends.Post,
@@ -662,7 +664,7 @@ field-ends-enum-told-5 : (t : ℕ) → field-ends-lts.Need-enum-told-5 (
 ) (field-ends-at t) field-ends.Post
 field-ends-enum-told-5 t c = search needs
 
--- src/quick.rt:192:16
+-- src/quick.rt:193:16
 field-ends-is-absent-requires-2 : (t : ℕ) → field-ends-lts.Need-is-absent-requires-2 (
   pair-ends-below t,
   pair-ends.Post,
@@ -679,7 +681,7 @@ field-ends-is-absent-requires-2 : (t : ℕ) → field-ends-lts.Need-is-absent-re
 ) (field-ends-at t) field-ends.Post
 field-ends-is-absent-requires-2 t c κs = search needs
 
--- src/quick.rt:193:22
+-- src/quick.rt:194:22
 field-ends-take-word-requires-2 : (t : ℕ) → field-ends-lts.Need-take-word-requires-2 (
   pair-ends-below t,
   pair-ends.Post,
@@ -696,7 +698,7 @@ field-ends-take-word-requires-2 : (t : ℕ) → field-ends-lts.Need-take-word-re
 ) (field-ends-at t) field-ends.Post
 field-ends-take-word-requires-2 t c κs = search needs
 
--- src/quick.rt:193:17
+-- src/quick.rt:194:17
 field-ends-ends-requires-3 : (t : ℕ) → field-ends-lts.Need-ends-requires-3 (
   pair-ends-below t,
   pair-ends.Post,
@@ -713,7 +715,7 @@ field-ends-ends-requires-3 : (t : ℕ) → field-ends-lts.Need-ends-requires-3 (
 ) (field-ends-at t) field-ends.Post
 field-ends-ends-requires-3 t c κs = search needs
 
--- src/quick.rt:195:17
+-- src/quick.rt:196:17
 field-ends-list-ends-requires-3 : (t : ℕ) → field-ends-lts.Need-list-ends-requires-3 (
   pair-ends-below t,
   pair-ends.Post,
@@ -730,7 +732,7 @@ field-ends-list-ends-requires-3 : (t : ℕ) → field-ends-lts.Need-list-ends-re
 ) (field-ends-at t) field-ends.Post
 field-ends-list-ends-requires-3 t c κs = omega (arith, (c .before .before .before .before .before .before .pre .0))
 
--- src/quick.rt:160:1
+-- src/quick.rt:161:1
 field-ends-returns-2 : (t : ℕ) → field-ends-lts.Need-returns-2 (
   pair-ends-below t,
   pair-ends.Post,
@@ -748,7 +750,7 @@ field-ends-returns-2 : (t : ℕ) → field-ends-lts.Need-returns-2 (
 unfolding fieldForm timesForm
 field-ends-returns-2 t c = rw (c .before .enum-told .given .1) (c .pair-ends .ensures)
 
--- src/quick.rt:160:1
+-- src/quick.rt:161:1
 field-ends-returns-3 : (t : ℕ) → field-ends-lts.Need-returns-3 (
   pair-ends-below t,
   pair-ends.Post,
@@ -764,9 +766,9 @@ field-ends-returns-3 : (t : ℕ) → field-ends-lts.Need-returns-3 (
   non-empty-form-reads.Learnt,
 ) (field-ends-at t) field-ends.Post
 unfolding fieldForm timesForm
-field-ends-returns-3 t c = rw (c .before .before .before .before .enum-told2 .given .1) (reach-yes _ _ _ _ _ (told _ _ _ (c .before .before .before .is-absent .ensures) (c .before .before .if1 .taken)) (reach-same _ _ _ (c .before .take-word .ensures) (c .ends .ensures)))
+field-ends-returns-3 t c = rw (c .before .before .before .before .enum-told2 .given .1) (reach-yes _ _ _ _ _ _ (told _ _ _ (c .before .before .before .is-absent .ensures) (c .before .before .if1 .taken)) (reach-leaf (c .before .before .before .before .before .before .before .before .args .sheet .now) _ _ _ _ (word-ends (c .before .before .before .before .before .before .before .before .args .sheet .now) 2 1 (c .before .before .before .before .before .before .before .before .args .at)) (c .before .take-word .ensures) (c .ends .ensures)))
 
--- src/quick.rt:160:1
+-- src/quick.rt:161:1
 field-ends-returns-4 : (t : ℕ) → field-ends-lts.Need-returns-4 (
   pair-ends-below t,
   pair-ends.Post,
@@ -782,9 +784,9 @@ field-ends-returns-4 : (t : ℕ) → field-ends-lts.Need-returns-4 (
   non-empty-form-reads.Learnt,
 ) (field-ends-at t) field-ends.Post
 unfolding fieldForm timesForm
-field-ends-returns-4 t c = rw (c .before .before .before .enum-told2 .given .1) (reach-no _ _ _ _ _ (told _ _ _ (c .before .before .is-absent .ensures) (c .before .if1 .left)) (c .pair-ends2 .ensures))
+field-ends-returns-4 t c = rw (c .before .before .before .enum-told2 .given .1) (reach-no _ _ _ _ _ _ (told _ _ _ (c .before .before .is-absent .ensures) (c .before .if1 .left)) (c .pair-ends2 .ensures))
 
--- src/quick.rt:160:1
+-- src/quick.rt:161:1
 field-ends-returns-5 : (t : ℕ) → field-ends-lts.Need-returns-5 (
   pair-ends-below t,
   pair-ends.Post,
@@ -802,7 +804,7 @@ field-ends-returns-5 : (t : ℕ) → field-ends-lts.Need-returns-5 (
 unfolding fieldForm timesForm
 field-ends-returns-5 t c = rw (c .before .enum-told3 .given .1) (c .list-ends .ensures)
 
--- src/quick.rt:160:1
+-- src/quick.rt:161:1
 field-ends-returns-6 : (t : ℕ) → field-ends-lts.Need-returns-6 (
   pair-ends-below t,
   pair-ends.Post,
@@ -818,9 +820,9 @@ field-ends-returns-6 : (t : ℕ) → field-ends-lts.Need-returns-6 (
   non-empty-form-reads.Learnt,
 ) (field-ends-at t) field-ends.Post
 unfolding fieldForm timesForm
-field-ends-returns-6 t c = rw (c .before .before .before .before .enum-told4 .given .1) (reach-then _ _ _ _ (reach-same _ _ _ (c .before .before .before .non-empty-form .ensures) (c .before .before .ends2 .ensures)) (c .before .if2 .left) (c .list-ends2 .ensures))
+field-ends-returns-6 t c = rw (c .before .before .before .before .enum-told4 .given .1) (reach-again _ _ _ _ _ (reach-leaf (c .before .before .before .before .before .before .before .before .args .sheet .now) _ _ _ _ (non-empty-ends (c .before .before .before .before .before .before .before .before .args .sheet .now) (c .before .before .before .before .before .before .before .before .args .at)) (c .before .before .before .non-empty-form .ensures) (c .before .before .ends2 .ensures)) (c .before .if2 .left) (c .list-ends2 .ensures))
 
--- src/quick.rt:160:1
+-- src/quick.rt:161:1
 field-ends-returns-7 : (t : ℕ) → field-ends-lts.Need-returns-7 (
   pair-ends-below t,
   pair-ends.Post,
@@ -836,9 +838,9 @@ field-ends-returns-7 : (t : ℕ) → field-ends-lts.Need-returns-7 (
   non-empty-form-reads.Learnt,
 ) (field-ends-at t) field-ends.Post
 unfolding fieldForm timesForm
-field-ends-returns-7 t c = rw (c .before .before .before .before .enum-told5 .given .1) (reach-yes _ _ _ _ _ (told _ _ _ (c .before .before .before .is-absent2 .ensures) (c .before .before .if3 .taken)) (reach-same _ _ _ (c .before .take-word2 .ensures) (c .ends3 .ensures)))
+field-ends-returns-7 t c = rw (c .before .before .before .before .enum-told5 .given .1) (reach-yes _ _ _ _ _ _ (told _ _ _ (c .before .before .before .is-absent2 .ensures) (c .before .before .if3 .taken)) (reach-leaf (c .before .before .before .before .before .before .before .before .args .sheet .now) _ _ _ _ (word-ends (c .before .before .before .before .before .before .before .before .args .sheet .now) 2 1 (c .before .before .before .before .before .before .before .before .args .at)) (c .before .take-word2 .ensures) (c .ends3 .ensures)))
 
--- src/quick.rt:160:1
+-- src/quick.rt:161:1
 field-ends-returns-8 : (t : ℕ) → field-ends-lts.Need-returns-8 (
   pair-ends-below t,
   pair-ends.Post,
@@ -854,7 +856,7 @@ field-ends-returns-8 : (t : ℕ) → field-ends-lts.Need-returns-8 (
   non-empty-form-reads.Learnt,
 ) (field-ends-at t) field-ends.Post
 unfolding fieldForm timesForm
-field-ends-returns-8 t c = rw (c .before .before .before .enum-told5 .given .1) (reach-no _ _ _ _ _ (told _ _ _ (c .before .before .is-absent2 .ensures) (c .before .if3 .left)) (c .list-ends3 .ensures))
+field-ends-returns-8 t c = rw (c .before .before .before .enum-told5 .given .1) (reach-no _ _ _ _ _ _ (told _ _ _ (c .before .before .is-absent2 .ensures) (c .before .if3 .left)) (c .list-ends3 .ensures))
 
 abbrev fields-ends-Inv-loop : fields-ends-lts.InvT-loop
 fields-ends-Inv-loop sheet text base len left i e at p₀ j₀ p j = (p₀ ≤ p) × (fieldsForm sheet text (lineFrom base len) (nodeForm sheet text (lineFrom base len) left) (fieldsFrom j (e - j)) p ≡ fieldsForm sheet text (lineFrom base len) (nodeForm sheet text (lineFrom base len) left) (fieldsFrom j₀ (e - j₀)) p₀)
@@ -862,7 +864,7 @@ fields-ends-Inv-loop sheet text base len left i e at p₀ j₀ p j = (p₀ ≤ p
 abbrev fields-ends-μ-loop : fields-ends-lts.MeasureT-loop
 fields-ends-μ-loop sheet text base len left i e at p₀ j₀ p j = e - j
 
--- src/quick.rt:216:5
+-- src/quick.rt:217:5
 fields-ends-loop-holds : (t : ℕ) → fields-ends-lts.Need-loop-holds (
   field-at-reads.Asked,
   field-at-reads.Learnt,
@@ -871,7 +873,7 @@ fields-ends-loop-holds : (t : ℕ) → fields-ends-lts.Need-loop-holds (
 ) (fields-ends-at t) fields-ends.Post fields-ends-Inv-loop fields-ends-μ-loop
 fields-ends-loop-holds t c = (omega arith, refl)
 
--- src/quick.rt:217:13
+-- src/quick.rt:218:13
 fields-ends-field-at-requires : (t : ℕ) → fields-ends-lts.Need-field-at-requires (
   field-at-reads.Asked,
   field-at-reads.Learnt,
@@ -880,7 +882,7 @@ fields-ends-field-at-requires : (t : ℕ) → fields-ends-lts.Need-field-at-requ
 ) (fields-ends-at t) fields-ends.Post fields-ends-Inv-loop fields-ends-μ-loop
 fields-ends-field-at-requires t c κs = search needs
 
--- src/quick.rt:218:13
+-- src/quick.rt:219:13
 fields-ends-field-ends-requires : (t : ℕ) → fields-ends-lts.Need-field-ends-requires (
   field-at-reads.Asked,
   field-at-reads.Learnt,
@@ -889,16 +891,16 @@ fields-ends-field-ends-requires : (t : ℕ) → fields-ends-lts.Need-field-ends-
 ) (fields-ends-at t) fields-ends.Post fields-ends-Inv-loop fields-ends-μ-loop
 fields-ends-field-ends-requires t c κs = omega (arith, (c .before .before .before .before .before .pre .0), (c .before .before .loop .inv .0))
 
--- src/quick.rt:220:13
+-- src/quick.rt:221:13
 fields-ends-returns : (t : ℕ) → fields-ends-lts.Need-returns (
   field-at-reads.Asked,
   field-at-reads.Learnt,
   field-ends-below t,
   field-ends.Post,
 ) (fields-ends-at t) fields-ends.Post fields-ends-Inv-loop fields-ends-μ-loop
-fields-ends-returns t c = nowhere _
+fields-ends-returns t c = fields-stops (c .before .before .before .before .before .before .before .args .sheet .now) (c .before .before .before .before .before .before .before .args .text .now) (lineFrom (c .before .before .before .before .before .before .before .args .base) (c .before .before .before .before .before .before .before .args .len)) (nodeForm (c .before .before .before .before .before .before .before .args .sheet .now) (c .before .before .before .before .before .before .before .args .text .now) (lineFrom (c .before .before .before .before .before .before .before .args .base) (c .before .before .before .before .before .before .before .args .len)) (c .before .before .before .before .before .before .before .args .left)) _ _ _ _ _ _ _ (c .before .before .before .loop-test .taken) (c .before .before .field-at .ensures) (c .before .field-ends .ensures) (c .if1 .taken) (c .before .before .before .before .loop .inv .0) (c .before .before .before .before .loop .inv .1)
 
--- src/quick.rt:223:9
+-- src/quick.rt:224:9
 fields-ends-add-j : (t : ℕ) → fields-ends-lts.Need-add-j (
   field-at-reads.Asked,
   field-at-reads.Learnt,
@@ -907,7 +909,7 @@ fields-ends-add-j : (t : ℕ) → fields-ends-lts.Need-add-j (
 ) (fields-ends-at t) fields-ends.Post fields-ends-Inv-loop fields-ends-μ-loop
 fields-ends-add-j t c = search needs
 
--- src/quick.rt:216:5
+-- src/quick.rt:217:5
 fields-ends-loop-less : (t : ℕ) → fields-ends-lts.Need-loop-less (
   field-at-reads.Asked,
   field-at-reads.Learnt,
@@ -916,25 +918,25 @@ fields-ends-loop-less : (t : ℕ) → fields-ends-lts.Need-loop-less (
 ) (fields-ends-at t) fields-ends.Post fields-ends-Inv-loop fields-ends-μ-loop
 fields-ends-loop-less t c = omega (arith, (c .before .before .before .loop-test .taken))
 
--- src/quick.rt:216:5
+-- src/quick.rt:217:5
 fields-ends-loop-again : (t : ℕ) → fields-ends-lts.Need-loop-again (
   field-at-reads.Asked,
   field-at-reads.Learnt,
   field-ends-below t,
   field-ends.Post,
 ) (fields-ends-at t) fields-ends.Post fields-ends-Inv-loop fields-ends-μ-loop
-fields-ends-loop-again t c = (omega (arith, (c .before .before .before .before .loop .inv .0), reach-later (c .before .before .before .before .before .before .before .args .sheet .now) _ _ _ (field-step (c .before .before .before .before .before .before .before .args .sheet .now) (c .before .before .before .before .before .before .before .args .text .now) (lineFrom (c .before .before .before .before .before .before .before .args .base) (c .before .before .before .before .before .before .before .args .len)) (nodeForm (c .before .before .before .before .before .before .before .args .sheet .now) (c .before .before .before .before .before .before .before .args .text .now) (lineFrom (c .before .before .before .before .before .before .before .args .base) (c .before .before .before .before .before .before .before .args .len)) (c .before .before .before .before .before .before .before .args .left)) (node-step (c .before .before .before .before .before .before .before .args .sheet .now) (c .before .before .before .before .before .before .before .args .text .now) (lineFrom (c .before .before .before .before .before .before .before .args .base) (c .before .before .before .before .before .before .before .args .len)) (c .before .before .before .before .before .before .before .args .left)) (c .before .before .field-at .result) (c .before .before .before .before .loop .p)) (c .before .field-ends .ensures) (c .if1 .left)), fields-step (c .before .before .before .before .before .before .before .args .sheet .now) (c .before .before .before .before .before .before .before .args .text .now) (lineFrom (c .before .before .before .before .before .before .before .args .base) (c .before .before .before .before .before .before .before .args .len)) (nodeForm (c .before .before .before .before .before .before .before .args .sheet .now) (c .before .before .before .before .before .before .before .args .text .now) (lineFrom (c .before .before .before .before .before .before .before .args .base) (c .before .before .before .before .before .before .before .args .len)) (c .before .before .before .before .before .before .before .args .left)) _ _ _ _ _ _ _ (c .before .before .before .loop-test .taken) (c .before .before .field-at .ensures) refl ((c .before .field-ends .ensures) (c .if1 .left)) (c .before .before .before .before .loop .inv .1))
+fields-ends-loop-again t c = (omega (arith, (c .before .before .before .before .loop .inv .0), reach-later (c .before .before .before .before .before .before .before .args .sheet .now) _ _ _ (field-step (c .before .before .before .before .before .before .before .args .sheet .now) (c .before .before .before .before .before .before .before .args .text .now) (lineFrom (c .before .before .before .before .before .before .before .args .base) (c .before .before .before .before .before .before .before .args .len)) (nodeForm (c .before .before .before .before .before .before .before .args .sheet .now) (c .before .before .before .before .before .before .before .args .text .now) (lineFrom (c .before .before .before .before .before .before .before .args .base) (c .before .before .before .before .before .before .before .args .len)) (c .before .before .before .before .before .before .before .args .left)) (node-step (c .before .before .before .before .before .before .before .args .sheet .now) (c .before .before .before .before .before .before .before .args .text .now) (lineFrom (c .before .before .before .before .before .before .before .args .base) (c .before .before .before .before .before .before .before .args .len)) (c .before .before .before .before .before .before .before .args .left)) (c .before .before .field-at .result) (c .before .before .before .before .loop .p)) (c .before .field-ends .ensures) (c .if1 .left)), fields-step (c .before .before .before .before .before .before .before .args .sheet .now) (c .before .before .before .before .before .before .before .args .text .now) (lineFrom (c .before .before .before .before .before .before .before .args .base) (c .before .before .before .before .before .before .before .args .len)) (nodeForm (c .before .before .before .before .before .before .before .args .sheet .now) (c .before .before .before .before .before .before .before .args .text .now) (lineFrom (c .before .before .before .before .before .before .before .args .base) (c .before .before .before .before .before .before .before .args .len)) (c .before .before .before .before .before .before .before .args .left)) _ _ _ _ _ _ _ (c .before .before .before .loop-test .taken) (c .before .before .field-at .ensures) refl ((c .before .field-ends .ensures .0) (c .if1 .left)) (c .before .before .before .before .loop .inv .1))
 
--- src/quick.rt:202:1
+-- src/quick.rt:203:1
 fields-ends-returns-2 : (t : ℕ) → fields-ends-lts.Need-returns-2 (
   field-at-reads.Asked,
   field-at-reads.Learnt,
   field-ends-below t,
   field-ends.Post,
 ) (fields-ends-at t) fields-ends.Post fields-ends-Inv-loop fields-ends-μ-loop
-fields-ends-returns-2 t c = reach-end _ _ (fields-end (c .before .before .before .before .args .sheet .now) (c .before .before .before .before .args .text .now) (lineFrom (c .before .before .before .before .args .base) (c .before .before .before .before .args .len)) (nodeForm (c .before .before .before .before .args .sheet .now) (c .before .before .before .before .args .text .now) (lineFrom (c .before .before .before .before .args .base) (c .before .before .before .before .args .len)) (c .before .before .before .before .args .left)) _ _ _ _ (c .loop-test .left) (c .before .loop .inv .1))
+fields-ends-returns-2 t c = reach-end _ _ _ (fields-end (c .before .before .before .before .args .sheet .now) (c .before .before .before .before .args .text .now) (lineFrom (c .before .before .before .before .args .base) (c .before .before .before .before .args .len)) (nodeForm (c .before .before .before .before .args .sheet .now) (c .before .before .before .before .args .text .now) (lineFrom (c .before .before .before .before .args .base) (c .before .before .before .before .args .len)) (c .before .before .before .before .args .left)) _ _ _ _ (c .loop-test .left) (c .before .loop .inv .1)) (c .before .loop .inv .0)
 
--- src/quick.rt:86:26
+-- src/quick.rt:87:26
 item-ends-enum-told : (t : ℕ) → item-ends-lts.Need-enum-told (
   take-word-reads.Asked,
   take-word-reads.Learnt,
@@ -963,7 +965,7 @@ item-ends-enum-told : (t : ℕ) → item-ends-lts.Need-enum-told (
 ) (item-ends-at t) item-ends.Post
 item-ends-enum-told t c = search needs
 
--- src/quick.rt:87:20
+-- src/quick.rt:88:20
 item-ends-enum-known-item : (t : ℕ) → item-ends-lts.Need-enum-known-item (
   take-word-reads.Asked,
   take-word-reads.Learnt,
@@ -992,7 +994,7 @@ item-ends-enum-known-item : (t : ℕ) → item-ends-lts.Need-enum-known-item (
 ) (item-ends-at t) item-ends.Post
 item-ends-enum-known-item t c = search needs
 
--- src/quick.rt:87:34
+-- src/quick.rt:88:34
 item-ends-take-word-requires : (t : ℕ) → item-ends-lts.Need-take-word-requires (
   take-word-reads.Asked,
   take-word-reads.Learnt,
@@ -1021,7 +1023,7 @@ item-ends-take-word-requires : (t : ℕ) → item-ends-lts.Need-take-word-requir
 ) (item-ends-at t) item-ends.Post
 item-ends-take-word-requires t c κs = search needs
 
--- src/quick.rt:87:29
+-- src/quick.rt:88:29
 item-ends-ends-requires : (t : ℕ) → item-ends-lts.Need-ends-requires (
   take-word-reads.Asked,
   take-word-reads.Learnt,
@@ -1050,7 +1052,7 @@ item-ends-ends-requires : (t : ℕ) → item-ends-lts.Need-ends-requires (
 ) (item-ends-at t) item-ends.Post
 item-ends-ends-requires t c κs = search needs
 
--- src/quick.rt:88:60
+-- src/quick.rt:89:60
 item-ends-enum-told-2 : (t : ℕ) → item-ends-lts.Need-enum-told-2 (
   take-word-reads.Asked,
   take-word-reads.Learnt,
@@ -1079,7 +1081,7 @@ item-ends-enum-told-2 : (t : ℕ) → item-ends-lts.Need-enum-told-2 (
 ) (item-ends-at t) item-ends.Post
 item-ends-enum-told-2 t c = search needs
 
--- src/quick.rt:88:29
+-- src/quick.rt:89:29
 item-ends-range-form-requires : (t : ℕ) → item-ends-lts.Need-range-form-requires (
   take-word-reads.Asked,
   take-word-reads.Learnt,
@@ -1108,7 +1110,7 @@ item-ends-range-form-requires : (t : ℕ) → item-ends-lts.Need-range-form-requ
 ) (item-ends-at t) item-ends.Post
 item-ends-range-form-requires t c κs = search needs
 
--- src/quick.rt:88:24
+-- src/quick.rt:89:24
 item-ends-ends-requires-2 : (t : ℕ) → item-ends-lts.Need-ends-requires-2 (
   take-word-reads.Asked,
   take-word-reads.Learnt,
@@ -1137,7 +1139,7 @@ item-ends-ends-requires-2 : (t : ℕ) → item-ends-lts.Need-ends-requires-2 (
 ) (item-ends-at t) item-ends.Post
 item-ends-ends-requires-2 t c κs = search needs
 
--- src/quick.rt:89:51
+-- src/quick.rt:90:51
 item-ends-enum-told-3 : (t : ℕ) → item-ends-lts.Need-enum-told-3 (
   take-word-reads.Asked,
   take-word-reads.Learnt,
@@ -1166,7 +1168,7 @@ item-ends-enum-told-3 : (t : ℕ) → item-ends-lts.Need-enum-told-3 (
 ) (item-ends-at t) item-ends.Post
 item-ends-enum-told-3 t c = search needs
 
--- src/quick.rt:89:28
+-- src/quick.rt:90:28
 item-ends-name-form-requires : (t : ℕ) → item-ends-lts.Need-name-form-requires (
   take-word-reads.Asked,
   take-word-reads.Learnt,
@@ -1195,7 +1197,7 @@ item-ends-name-form-requires : (t : ℕ) → item-ends-lts.Need-name-form-requir
 ) (item-ends-at t) item-ends.Post
 item-ends-name-form-requires t c κs = search needs
 
--- src/quick.rt:89:23
+-- src/quick.rt:90:23
 item-ends-ends-requires-3 : (t : ℕ) → item-ends-lts.Need-ends-requires-3 (
   take-word-reads.Asked,
   take-word-reads.Learnt,
@@ -1224,7 +1226,7 @@ item-ends-ends-requires-3 : (t : ℕ) → item-ends-lts.Need-ends-requires-3 (
 ) (item-ends-at t) item-ends.Post
 item-ends-ends-requires-3 t c κs = search needs
 
--- src/quick.rt:91:13
+-- src/quick.rt:92:13
 item-ends-enum-told-4 : (t : ℕ) → item-ends-lts.Need-enum-told-4 (
   take-word-reads.Asked,
   take-word-reads.Learnt,
@@ -1253,7 +1255,7 @@ item-ends-enum-told-4 : (t : ℕ) → item-ends-lts.Need-enum-told-4 (
 ) (item-ends-at t) item-ends.Post
 item-ends-enum-told-4 t c = search needs
 
--- src/quick.rt:90:36
+-- src/quick.rt:91:36
 item-ends-optional-name-form-requires : (t : ℕ) → item-ends-lts.Need-optional-name-form-requires (
   take-word-reads.Asked,
   take-word-reads.Learnt,
@@ -1282,7 +1284,7 @@ item-ends-optional-name-form-requires : (t : ℕ) → item-ends-lts.Need-optiona
 ) (item-ends-at t) item-ends.Post
 item-ends-optional-name-form-requires t c κs = search needs
 
--- src/quick.rt:90:31
+-- src/quick.rt:91:31
 item-ends-ends-requires-4 : (t : ℕ) → item-ends-lts.Need-ends-requires-4 (
   take-word-reads.Asked,
   take-word-reads.Learnt,
@@ -1311,7 +1313,7 @@ item-ends-ends-requires-4 : (t : ℕ) → item-ends-lts.Need-ends-requires-4 (
 ) (item-ends-at t) item-ends.Post
 item-ends-ends-requires-4 t c κs = search needs
 
--- src/quick.rt:96:51
+-- src/quick.rt:97:51
 item-ends-enum-told-5 : (t : ℕ) → item-ends-lts.Need-enum-told-5 (
   take-word-reads.Asked,
   take-word-reads.Learnt,
@@ -1340,7 +1342,7 @@ item-ends-enum-told-5 : (t : ℕ) → item-ends-lts.Need-enum-told-5 (
 ) (item-ends-at t) item-ends.Post
 item-ends-enum-told-5 t c = search needs
 
--- src/quick.rt:96:28
+-- src/quick.rt:97:28
 item-ends-text-form-requires : (t : ℕ) → item-ends-lts.Need-text-form-requires (
   take-word-reads.Asked,
   take-word-reads.Learnt,
@@ -1369,7 +1371,7 @@ item-ends-text-form-requires : (t : ℕ) → item-ends-lts.Need-text-form-requir
 ) (item-ends-at t) item-ends.Post
 item-ends-text-form-requires t c κs = search needs
 
--- src/quick.rt:96:23
+-- src/quick.rt:97:23
 item-ends-ends-requires-5 : (t : ℕ) → item-ends-lts.Need-ends-requires-5 (
   take-word-reads.Asked,
   take-word-reads.Learnt,
@@ -1398,7 +1400,7 @@ item-ends-ends-requires-5 : (t : ℕ) → item-ends-lts.Need-ends-requires-5 (
 ) (item-ends-at t) item-ends.Post
 item-ends-ends-requires-5 t c κs = search needs
 
--- src/quick.rt:97:20
+-- src/quick.rt:98:20
 item-ends-enum-known-item-2 : (t : ℕ) → item-ends-lts.Need-enum-known-item-2 (
   take-word-reads.Asked,
   take-word-reads.Learnt,
@@ -1427,7 +1429,7 @@ item-ends-enum-known-item-2 : (t : ℕ) → item-ends-lts.Need-enum-known-item-2
 ) (item-ends-at t) item-ends.Post
 item-ends-enum-known-item-2 t c = search needs
 
--- src/quick.rt:97:26
+-- src/quick.rt:98:26
 item-ends-node-ends-requires : (t : ℕ) → item-ends-lts.Need-node-ends-requires (
   take-word-reads.Asked,
   take-word-reads.Learnt,
@@ -1456,7 +1458,7 @@ item-ends-node-ends-requires : (t : ℕ) → item-ends-lts.Need-node-ends-requir
 ) (item-ends-at t) item-ends.Post
 item-ends-node-ends-requires t c κs = omega (arith, (c .before .before .before .before .before .pre .0))
 
--- src/quick.rt:98:30
+-- src/quick.rt:99:30
 item-ends-enum-told-6 : (t : ℕ) → item-ends-lts.Need-enum-told-6 (
   take-word-reads.Asked,
   take-word-reads.Learnt,
@@ -1485,7 +1487,7 @@ item-ends-enum-told-6 : (t : ℕ) → item-ends-lts.Need-enum-told-6 (
 ) (item-ends-at t) item-ends.Post
 item-ends-enum-told-6 t c = search needs
 
--- src/quick.rt:98:30
+-- src/quick.rt:99:30
 item-ends-number-form-requires : (t : ℕ) → item-ends-lts.Need-number-form-requires (
   take-word-reads.Asked,
   take-word-reads.Learnt,
@@ -1514,7 +1516,7 @@ item-ends-number-form-requires : (t : ℕ) → item-ends-lts.Need-number-form-re
 ) (item-ends-at t) item-ends.Post
 item-ends-number-form-requires t c κs = search needs
 
--- src/quick.rt:98:25
+-- src/quick.rt:99:25
 item-ends-ends-requires-6 : (t : ℕ) → item-ends-lts.Need-ends-requires-6 (
   take-word-reads.Asked,
   take-word-reads.Learnt,
@@ -1543,7 +1545,7 @@ item-ends-ends-requires-6 : (t : ℕ) → item-ends-lts.Need-ends-requires-6 (
 ) (item-ends-at t) item-ends.Post
 item-ends-ends-requires-6 t c κs = search needs
 
--- src/quick.rt:99:37
+-- src/quick.rt:100:37
 item-ends-enum-told-7 : (t : ℕ) → item-ends-lts.Need-enum-told-7 (
   take-word-reads.Asked,
   take-word-reads.Learnt,
@@ -1572,7 +1574,7 @@ item-ends-enum-told-7 : (t : ℕ) → item-ends-lts.Need-enum-told-7 (
 ) (item-ends-at t) item-ends.Post
 item-ends-enum-told-7 t c = search needs
 
--- src/quick.rt:99:37
+-- src/quick.rt:100:37
 item-ends-optional-label-form-requires : (t : ℕ) → item-ends-lts.Need-optional-label-form-requires (
   take-word-reads.Asked,
   take-word-reads.Learnt,
@@ -1601,7 +1603,7 @@ item-ends-optional-label-form-requires : (t : ℕ) → item-ends-lts.Need-option
 ) (item-ends-at t) item-ends.Post
 item-ends-optional-label-form-requires t c κs = search needs
 
--- src/quick.rt:99:32
+-- src/quick.rt:100:32
 item-ends-ends-requires-7 : (t : ℕ) → item-ends-lts.Need-ends-requires-7 (
   take-word-reads.Asked,
   take-word-reads.Learnt,
@@ -1630,7 +1632,7 @@ item-ends-ends-requires-7 : (t : ℕ) → item-ends-lts.Need-ends-requires-7 (
 ) (item-ends-at t) item-ends.Post
 item-ends-ends-requires-7 t c κs = search needs
 
--- src/quick.rt:100:37
+-- src/quick.rt:101:37
 item-ends-enum-told-8 : (t : ℕ) → item-ends-lts.Need-enum-told-8 (
   take-word-reads.Asked,
   take-word-reads.Learnt,
@@ -1659,7 +1661,7 @@ item-ends-enum-told-8 : (t : ℕ) → item-ends-lts.Need-enum-told-8 (
 ) (item-ends-at t) item-ends.Post
 item-ends-enum-told-8 t c = search needs
 
--- src/quick.rt:100:25
+-- src/quick.rt:101:25
 item-ends-source-ends-requires : (t : ℕ) → item-ends-lts.Need-source-ends-requires (
   take-word-reads.Asked,
   take-word-reads.Learnt,
@@ -1688,7 +1690,7 @@ item-ends-source-ends-requires : (t : ℕ) → item-ends-lts.Need-source-ends-re
 ) (item-ends-at t) item-ends.Post
 item-ends-source-ends-requires t c κs = omega (arith, (c .before .before .before .before .pre .0))
 
--- src/quick.rt:101:39
+-- src/quick.rt:102:39
 item-ends-enum-told-9 : (t : ℕ) → item-ends-lts.Need-enum-told-9 (
   take-word-reads.Asked,
   take-word-reads.Learnt,
@@ -1717,7 +1719,7 @@ item-ends-enum-told-9 : (t : ℕ) → item-ends-lts.Need-enum-told-9 (
 ) (item-ends-at t) item-ends.Post
 item-ends-enum-told-9 t c = search needs
 
--- src/quick.rt:101:26
+-- src/quick.rt:102:26
 item-ends-element-ends-requires : (t : ℕ) → item-ends-lts.Need-element-ends-requires (
   take-word-reads.Asked,
   take-word-reads.Learnt,
@@ -1746,7 +1748,7 @@ item-ends-element-ends-requires : (t : ℕ) → item-ends-lts.Need-element-ends-
 ) (item-ends-at t) item-ends.Post
 item-ends-element-ends-requires t c κs = omega (arith, (c .before .before .before .before .pre .0))
 
--- src/quick.rt:102:60
+-- src/quick.rt:103:60
 item-ends-enum-told-10 : (t : ℕ) → item-ends-lts.Need-enum-told-10 (
   take-word-reads.Asked,
   take-word-reads.Learnt,
@@ -1775,7 +1777,7 @@ item-ends-enum-told-10 : (t : ℕ) → item-ends-lts.Need-enum-told-10 (
 ) (item-ends-at t) item-ends.Post
 item-ends-enum-told-10 t c = search needs
 
--- src/quick.rt:102:29
+-- src/quick.rt:103:29
 item-ends-datum-form-requires : (t : ℕ) → item-ends-lts.Need-datum-form-requires (
   take-word-reads.Asked,
   take-word-reads.Learnt,
@@ -1804,7 +1806,7 @@ item-ends-datum-form-requires : (t : ℕ) → item-ends-lts.Need-datum-form-requ
 ) (item-ends-at t) item-ends.Post
 item-ends-datum-form-requires t c κs = search needs
 
--- src/quick.rt:102:24
+-- src/quick.rt:103:24
 item-ends-ends-requires-8 : (t : ℕ) → item-ends-lts.Need-ends-requires-8 (
   take-word-reads.Asked,
   take-word-reads.Learnt,
@@ -1833,7 +1835,7 @@ item-ends-ends-requires-8 : (t : ℕ) → item-ends-lts.Need-ends-requires-8 (
 ) (item-ends-at t) item-ends.Post
 item-ends-ends-requires-8 t c κs = search needs
 
--- src/quick.rt:74:1
+-- src/quick.rt:75:1
 item-ends-returns : (t : ℕ) → item-ends-lts.Need-returns (
   take-word-reads.Asked,
   take-word-reads.Learnt,
@@ -1861,9 +1863,9 @@ item-ends-returns : (t : ℕ) → item-ends-lts.Need-returns (
   datum-form-reads.Learnt,
 ) (item-ends-at t) item-ends.Post
 unfolding itemForm
-item-ends-returns t c = rw (c .enum-told .given .1) (reach-end _ _ refl)
+item-ends-returns t c = rw (c .enum-told .given .1) (reach-end (c .before .before .before .before .args .at) (c .before .before .before .before .args .at) _ refl (omega arith))
 
--- src/quick.rt:74:1
+-- src/quick.rt:75:1
 item-ends-returns-2 : (t : ℕ) → item-ends-lts.Need-returns-2 (
   take-word-reads.Asked,
   take-word-reads.Learnt,
@@ -1891,9 +1893,9 @@ item-ends-returns-2 : (t : ℕ) → item-ends-lts.Need-returns-2 (
   datum-form-reads.Learnt,
 ) (item-ends-at t) item-ends.Post
 unfolding itemForm
-item-ends-returns-2 t c = rw (c .before .before .before .item .given .1) (reach-same _ _ _ (c .before .take-word .ensures) (c .ends .ensures))
+item-ends-returns-2 t c = rw (c .before .before .before .item .given .1) (reach-leaf (c .before .before .before .before .before .before .before .args .sheet .now) _ _ _ _ (word-ends (c .before .before .before .before .before .before .before .args .sheet .now) _ _ (c .before .before .before .before .before .before .before .args .at)) (c .before .take-word .ensures) (c .ends .ensures))
 
--- src/quick.rt:74:1
+-- src/quick.rt:75:1
 item-ends-returns-3 : (t : ℕ) → item-ends-lts.Need-returns-3 (
   take-word-reads.Asked,
   take-word-reads.Learnt,
@@ -1921,9 +1923,9 @@ item-ends-returns-3 : (t : ℕ) → item-ends-lts.Need-returns-3 (
   datum-form-reads.Learnt,
 ) (item-ends-at t) item-ends.Post
 unfolding itemForm
-item-ends-returns-3 t c = rw (c .before .before .enum-told2 .given .1) (reach-same _ _ _ (c .before .range-form .ensures) (c .ends2 .ensures))
+item-ends-returns-3 t c = rw (c .before .before .enum-told2 .given .1) (reach-leaf (c .before .before .before .before .before .before .args .sheet .now) _ _ _ _ (range-ends (c .before .before .before .before .before .before .args .sheet .now) (lineFrom (c .before .before .before .before .before .before .args .base) (c .before .before .before .before .before .before .args .len)) (c .before .before .before .before .before .before .args .at)) (c .before .range-form .ensures) (c .ends2 .ensures))
 
--- src/quick.rt:74:1
+-- src/quick.rt:75:1
 item-ends-returns-4 : (t : ℕ) → item-ends-lts.Need-returns-4 (
   take-word-reads.Asked,
   take-word-reads.Learnt,
@@ -1951,9 +1953,9 @@ item-ends-returns-4 : (t : ℕ) → item-ends-lts.Need-returns-4 (
   datum-form-reads.Learnt,
 ) (item-ends-at t) item-ends.Post
 unfolding itemForm
-item-ends-returns-4 t c = rw (c .before .before .enum-told3 .given .1) (reach-same _ _ _ (c .before .name-form .ensures) (c .ends3 .ensures))
+item-ends-returns-4 t c = rw (c .before .before .enum-told3 .given .1) (reach-leaf (c .before .before .before .before .before .before .args .sheet .now) _ _ _ _ (name-ends (c .before .before .before .before .before .before .args .sheet .now) (c .before .before .before .before .before .before .args .text .now) (lineFrom (c .before .before .before .before .before .before .args .base) (c .before .before .before .before .before .before .args .len)) (c .before .before .before .before .before .before .args .at)) (c .before .name-form .ensures) (c .ends3 .ensures))
 
--- src/quick.rt:74:1
+-- src/quick.rt:75:1
 item-ends-returns-5 : (t : ℕ) → item-ends-lts.Need-returns-5 (
   take-word-reads.Asked,
   take-word-reads.Learnt,
@@ -1981,9 +1983,9 @@ item-ends-returns-5 : (t : ℕ) → item-ends-lts.Need-returns-5 (
   datum-form-reads.Learnt,
 ) (item-ends-at t) item-ends.Post
 unfolding itemForm
-item-ends-returns-5 t c = rw (c .before .before .enum-told4 .given .1) (reach-same _ _ _ (c .before .optional-name-form .ensures) (c .ends4 .ensures))
+item-ends-returns-5 t c = rw (c .before .before .enum-told4 .given .1) (reach-leaf (c .before .before .before .before .before .before .args .sheet .now) _ _ _ _ (absent-or (c .before .before .before .before .before .before .args .sheet .now) (c .before .before .before .before .before .before .args .at) (nameForm (c .before .before .before .before .before .before .args .sheet .now) (c .before .before .before .before .before .before .args .text .now) (lineFrom (c .before .before .before .before .before .before .args .base) (c .before .before .before .before .before .before .args .len))) (name-ends (c .before .before .before .before .before .before .args .sheet .now) (c .before .before .before .before .before .before .args .text .now) (lineFrom (c .before .before .before .before .before .before .args .base) (c .before .before .before .before .before .before .args .len)) (c .before .before .before .before .before .before .args .at))) (c .before .optional-name-form .ensures) (c .ends4 .ensures))
 
--- src/quick.rt:74:1
+-- src/quick.rt:75:1
 item-ends-returns-6 : (t : ℕ) → item-ends-lts.Need-returns-6 (
   take-word-reads.Asked,
   take-word-reads.Learnt,
@@ -2011,9 +2013,9 @@ item-ends-returns-6 : (t : ℕ) → item-ends-lts.Need-returns-6 (
   datum-form-reads.Learnt,
 ) (item-ends-at t) item-ends.Post
 unfolding itemForm
-item-ends-returns-6 t c = rw (c .before .before .enum-told5 .given .1) (reach-same _ _ _ (c .before .text-form .ensures) (c .ends5 .ensures))
+item-ends-returns-6 t c = rw (c .before .before .enum-told5 .given .1) (reach-leaf (c .before .before .before .before .before .before .args .sheet .now) _ _ _ _ (text-ends (c .before .before .before .before .before .before .args .sheet .now) (lineFrom (c .before .before .before .before .before .before .args .base) (c .before .before .before .before .before .before .args .len)) (c .before .before .before .before .before .before .args .at)) (c .before .text-form .ensures) (c .ends5 .ensures))
 
--- src/quick.rt:74:1
+-- src/quick.rt:75:1
 item-ends-returns-7 : (t : ℕ) → item-ends-lts.Need-returns-7 (
   take-word-reads.Asked,
   take-word-reads.Learnt,
@@ -2043,7 +2045,7 @@ item-ends-returns-7 : (t : ℕ) → item-ends-lts.Need-returns-7 (
 unfolding itemForm
 item-ends-returns-7 t c = rw (c .before .before .item2 .given .1) (c .node-ends .ensures)
 
--- src/quick.rt:74:1
+-- src/quick.rt:75:1
 item-ends-returns-8 : (t : ℕ) → item-ends-lts.Need-returns-8 (
   take-word-reads.Asked,
   take-word-reads.Learnt,
@@ -2071,9 +2073,9 @@ item-ends-returns-8 : (t : ℕ) → item-ends-lts.Need-returns-8 (
   datum-form-reads.Learnt,
 ) (item-ends-at t) item-ends.Post
 unfolding itemForm
-item-ends-returns-8 t c = rw (c .before .before .enum-told6 .given .1) (reach-same _ _ _ (c .before .number-form .ensures) (c .ends6 .ensures))
+item-ends-returns-8 t c = rw (c .before .before .enum-told6 .given .1) (reach-leaf (c .before .before .before .before .before .before .args .sheet .now) _ _ _ _ (number-ends (c .before .before .before .before .before .before .args .sheet .now) (c .before .before .before .before .before .before .args .at)) (c .before .number-form .ensures) (c .ends6 .ensures))
 
--- src/quick.rt:74:1
+-- src/quick.rt:75:1
 item-ends-returns-9 : (t : ℕ) → item-ends-lts.Need-returns-9 (
   take-word-reads.Asked,
   take-word-reads.Learnt,
@@ -2101,9 +2103,9 @@ item-ends-returns-9 : (t : ℕ) → item-ends-lts.Need-returns-9 (
   datum-form-reads.Learnt,
 ) (item-ends-at t) item-ends.Post
 unfolding itemForm
-item-ends-returns-9 t c = rw (c .before .before .enum-told7 .given .1) (reach-same _ _ _ (c .before .optional-label-form .ensures) (c .ends7 .ensures))
+item-ends-returns-9 t c = rw (c .before .before .enum-told7 .given .1) (reach-leaf (c .before .before .before .before .before .before .args .sheet .now) _ _ _ _ (absent-or (c .before .before .before .before .before .before .args .sheet .now) (c .before .before .before .before .before .before .args .at) (takeWord (c .before .before .before .before .before .before .args .sheet .now) 3 65536) (word-ends (c .before .before .before .before .before .before .args .sheet .now) 3 65536 (c .before .before .before .before .before .before .args .at))) (c .before .optional-label-form .ensures) (c .ends7 .ensures))
 
--- src/quick.rt:74:1
+-- src/quick.rt:75:1
 item-ends-returns-10 : (t : ℕ) → item-ends-lts.Need-returns-10 (
   take-word-reads.Asked,
   take-word-reads.Learnt,
@@ -2133,7 +2135,7 @@ item-ends-returns-10 : (t : ℕ) → item-ends-lts.Need-returns-10 (
 unfolding itemForm
 item-ends-returns-10 t c = rw (c .before .enum-told8 .given .1) (c .source-ends .ensures)
 
--- src/quick.rt:74:1
+-- src/quick.rt:75:1
 item-ends-returns-11 : (t : ℕ) → item-ends-lts.Need-returns-11 (
   take-word-reads.Asked,
   take-word-reads.Learnt,
@@ -2163,7 +2165,7 @@ item-ends-returns-11 : (t : ℕ) → item-ends-lts.Need-returns-11 (
 unfolding itemForm
 item-ends-returns-11 t c = rw (c .before .enum-told9 .given .1) (c .element-ends .ensures)
 
--- src/quick.rt:74:1
+-- src/quick.rt:75:1
 item-ends-returns-12 : (t : ℕ) → item-ends-lts.Need-returns-12 (
   take-word-reads.Asked,
   take-word-reads.Learnt,
@@ -2191,7 +2193,7 @@ item-ends-returns-12 : (t : ℕ) → item-ends-lts.Need-returns-12 (
   datum-form-reads.Learnt,
 ) (item-ends-at t) item-ends.Post
 unfolding itemForm
-item-ends-returns-12 t c = rw (c .before .before .enum-told10 .given .1) (reach-same _ _ _ (c .before .datum-form .ensures) (c .ends8 .ensures))
+item-ends-returns-12 t c = rw (c .before .before .enum-told10 .given .1) (reach-leaf (c .before .before .before .before .before .before .args .sheet .now) _ _ _ _ (datum-ends (c .before .before .before .before .before .before .args .sheet .now) (lineFrom (c .before .before .before .before .before .before .args .base) (c .before .before .before .before .before .before .args .len)) (c .before .before .before .before .before .before .args .at)) (c .before .datum-form .ensures) (c .ends8 .ensures))
 
 abbrev list-ends-Inv-loop : list-ends-lts.InvT-loop
 list-ends-Inv-loop sheet text base len left a b at q p₀ n₀ p n = (p₀ ≤ p) × (repeatForm sheet text (lineFrom base len) (pairForm sheet text (lineFrom base len) (nodeForm sheet text (lineFrom base len) left) a b) n p ≡ repeatForm sheet text (lineFrom base len) (pairForm sheet text (lineFrom base len) (nodeForm sheet text (lineFrom base len) left) a b) n₀ p₀)
@@ -2199,7 +2201,7 @@ list-ends-Inv-loop sheet text base len left a b at q p₀ n₀ p n = (p₀ ≤ p
 abbrev list-ends-μ-loop : list-ends-lts.MeasureT-loop
 list-ends-μ-loop sheet text base len left a b at q p₀ n₀ p n = n
 
--- src/quick.rt:142:18
+-- src/quick.rt:143:18
 list-ends-take-word-requires : (t : ℕ) → list-ends-lts.Need-take-word-requires (
   take-word-reads.Asked,
   take-word-reads.Learnt,
@@ -2212,7 +2214,7 @@ list-ends-take-word-requires : (t : ℕ) → list-ends-lts.Need-take-word-requir
 ) (list-ends-at t) list-ends.Post list-ends-Inv-loop list-ends-μ-loop
 list-ends-take-word-requires t c κs = search needs
 
--- src/quick.rt:142:9
+-- src/quick.rt:143:9
 list-ends-ends-requires : (t : ℕ) → list-ends-lts.Need-ends-requires (
   take-word-reads.Asked,
   take-word-reads.Learnt,
@@ -2225,7 +2227,7 @@ list-ends-ends-requires : (t : ℕ) → list-ends-lts.Need-ends-requires (
 ) (list-ends-at t) list-ends.Post list-ends-Inv-loop list-ends-μ-loop
 list-ends-ends-requires t c κs = search needs
 
--- src/quick.rt:144:9
+-- src/quick.rt:145:9
 list-ends-returns : (t : ℕ) → list-ends-lts.Need-returns (
   take-word-reads.Asked,
   take-word-reads.Learnt,
@@ -2236,9 +2238,10 @@ list-ends-returns : (t : ℕ) → list-ends-lts.Need-returns (
   pair-ends-below t,
   pair-ends.Post,
 ) (list-ends-at t) list-ends.Post list-ends-Inv-loop list-ends-μ-loop
-list-ends-returns t c = nowhere _
+unfolding listForm
+list-ends-returns t c = reach-stop _ _ _ _ (reach-leaf (c .before .before .before .before .before .args .sheet .now) _ _ _ _ (word-ends (c .before .before .before .before .before .args .sheet .now) 4 16777216 (c .before .before .before .before .before .args .at)) (c .before .before .take-word .ensures) (c .before .ends .ensures)) (c .if1 .taken)
 
--- src/quick.rt:147:9
+-- src/quick.rt:148:9
 list-ends-payload-at-requires : (t : ℕ) → list-ends-lts.Need-payload-at-requires (
   take-word-reads.Asked,
   take-word-reads.Learnt,
@@ -2251,7 +2254,7 @@ list-ends-payload-at-requires : (t : ℕ) → list-ends-lts.Need-payload-at-requ
 ) (list-ends-at t) list-ends.Post list-ends-Inv-loop list-ends-μ-loop
 list-ends-payload-at-requires t c κs = search needs
 
--- src/quick.rt:148:5
+-- src/quick.rt:149:5
 list-ends-loop-holds : (t : ℕ) → list-ends-lts.Need-loop-holds (
   take-word-reads.Asked,
   take-word-reads.Learnt,
@@ -2264,7 +2267,7 @@ list-ends-loop-holds : (t : ℕ) → list-ends-lts.Need-loop-holds (
 ) (list-ends-at t) list-ends.Post list-ends-Inv-loop list-ends-μ-loop
 list-ends-loop-holds t c = (omega arith, refl)
 
--- src/quick.rt:149:13
+-- src/quick.rt:150:13
 list-ends-pair-ends-requires : (t : ℕ) → list-ends-lts.Need-pair-ends-requires (
   take-word-reads.Asked,
   take-word-reads.Learnt,
@@ -2275,9 +2278,9 @@ list-ends-pair-ends-requires : (t : ℕ) → list-ends-lts.Need-pair-ends-requir
   pair-ends-below t,
   pair-ends.Post,
 ) (list-ends-at t) list-ends.Post list-ends-Inv-loop list-ends-μ-loop
-list-ends-pair-ends-requires t c κs = omega (arith, (c .before .before .before .before .before .before .before .before .pre .0), (c .before .loop .inv .0), reach-later (c .before .before .before .before .before .before .before .before .args .sheet .now) _ _ _ (word-ends (c .before .before .before .before .before .before .before .before .args .sheet .now) 4 16777216 (c .before .before .before .before .before .before .before .before .args .at)) (reach-same _ _ _ (c .before .before .before .before .before .take-word .ensures) (c .before .before .before .before .ends .ensures)) (c .before .before .before .if1 .left))
+list-ends-pair-ends-requires t c κs = omega (arith, (c .before .before .before .before .before .before .before .before .pre .0), (c .before .loop .inv .0), reach-later (c .before .before .before .before .before .before .before .before .args .sheet .now) _ _ _ (word-ends (c .before .before .before .before .before .before .before .before .args .sheet .now) 4 16777216 (c .before .before .before .before .before .before .before .before .args .at)) (reach-leaf (c .before .before .before .before .before .before .before .before .args .sheet .now) _ _ _ _ (word-ends (c .before .before .before .before .before .before .before .before .args .sheet .now) 4 16777216 (c .before .before .before .before .before .before .before .before .args .at)) (c .before .before .before .before .before .take-word .ensures) (c .before .before .before .before .ends .ensures)) (c .before .before .before .if1 .left))
 
--- src/quick.rt:151:13
+-- src/quick.rt:152:13
 list-ends-returns-2 : (t : ℕ) → list-ends-lts.Need-returns-2 (
   take-word-reads.Asked,
   take-word-reads.Learnt,
@@ -2288,9 +2291,10 @@ list-ends-returns-2 : (t : ℕ) → list-ends-lts.Need-returns-2 (
   pair-ends-below t,
   pair-ends.Post,
 ) (list-ends-at t) list-ends.Post list-ends-Inv-loop list-ends-μ-loop
-list-ends-returns-2 t c = nowhere _
+unfolding listForm
+list-ends-returns-2 t c = reach-then _ _ _ _ _ (reach-leaf (c .before .before .before .before .before .before .before .before .before .before .args .sheet .now) _ _ _ _ (word-ends (c .before .before .before .before .before .before .before .before .before .before .args .sheet .now) 4 16777216 (c .before .before .before .before .before .before .before .before .before .before .args .at)) (c .before .before .before .before .before .before .before .take-word .ensures) (c .before .before .before .before .before .before .ends .ensures)) (c .before .before .before .before .before .if1 .left) (repeat-stops (c .before .before .before .before .before .before .before .before .before .before .args .sheet .now) (c .before .before .before .before .before .before .before .before .before .before .args .text .now) (lineFrom (c .before .before .before .before .before .before .before .before .before .before .args .base) (c .before .before .before .before .before .before .before .before .before .before .args .len)) (pairForm (c .before .before .before .before .before .before .before .before .before .before .args .sheet .now) (c .before .before .before .before .before .before .before .before .before .before .args .text .now) (lineFrom (c .before .before .before .before .before .before .before .before .before .before .args .base) (c .before .before .before .before .before .before .before .before .before .before .args .len)) (nodeForm (c .before .before .before .before .before .before .before .before .before .before .args .sheet .now) (c .before .before .before .before .before .before .before .before .before .before .args .text .now) (lineFrom (c .before .before .before .before .before .before .before .before .before .before .args .base) (c .before .before .before .before .before .before .before .before .before .before .args .len)) (c .before .before .before .before .before .before .before .before .before .before .args .left)) (c .before .before .before .before .before .before .before .before .before .before .args .a) (c .before .before .before .before .before .before .before .before .before .before .args .b)) _ _ _ _ _ _ (c .before .before .loop-test .taken) (c .before .pair-ends .ensures) (c .if2 .taken) (c .before .before .before .loop .inv .0) (c .before .before .before .loop .inv .1) (c .before .before .before .before .payload-at .ensures))
 
--- src/quick.rt:154:9
+-- src/quick.rt:155:9
 list-ends-sub-n : (t : ℕ) → list-ends-lts.Need-sub-n (
   take-word-reads.Asked,
   take-word-reads.Learnt,
@@ -2303,7 +2307,7 @@ list-ends-sub-n : (t : ℕ) → list-ends-lts.Need-sub-n (
 ) (list-ends-at t) list-ends.Post list-ends-Inv-loop list-ends-μ-loop
 list-ends-sub-n t c = search needs
 
--- src/quick.rt:148:5
+-- src/quick.rt:149:5
 list-ends-loop-less : (t : ℕ) → list-ends-lts.Need-loop-less (
   take-word-reads.Asked,
   take-word-reads.Learnt,
@@ -2316,7 +2320,7 @@ list-ends-loop-less : (t : ℕ) → list-ends-lts.Need-loop-less (
 ) (list-ends-at t) list-ends.Post list-ends-Inv-loop list-ends-μ-loop
 list-ends-loop-less t c = omega (arith, (c .before .before .loop-test .taken))
 
--- src/quick.rt:148:5
+-- src/quick.rt:149:5
 list-ends-loop-again : (t : ℕ) → list-ends-lts.Need-loop-again (
   take-word-reads.Asked,
   take-word-reads.Learnt,
@@ -2327,9 +2331,9 @@ list-ends-loop-again : (t : ℕ) → list-ends-lts.Need-loop-again (
   pair-ends-below t,
   pair-ends.Post,
 ) (list-ends-at t) list-ends.Post list-ends-Inv-loop list-ends-μ-loop
-list-ends-loop-again t c = (omega (arith, (c .before .before .before .loop .inv .0), reach-later (c .before .before .before .before .before .before .before .before .before .before .args .sheet .now) _ _ _ (pair-step (c .before .before .before .before .before .before .before .before .before .before .args .sheet .now) (c .before .before .before .before .before .before .before .before .before .before .args .text .now) (lineFrom (c .before .before .before .before .before .before .before .before .before .before .args .base) (c .before .before .before .before .before .before .before .before .before .before .args .len)) (nodeForm (c .before .before .before .before .before .before .before .before .before .before .args .sheet .now) (c .before .before .before .before .before .before .before .before .before .before .args .text .now) (lineFrom (c .before .before .before .before .before .before .before .before .before .before .args .base) (c .before .before .before .before .before .before .before .before .before .before .args .len)) (c .before .before .before .before .before .before .before .before .before .before .args .left)) (node-step (c .before .before .before .before .before .before .before .before .before .before .args .sheet .now) (c .before .before .before .before .before .before .before .before .before .before .args .text .now) (lineFrom (c .before .before .before .before .before .before .before .before .before .before .args .base) (c .before .before .before .before .before .before .before .before .before .before .args .len)) (c .before .before .before .before .before .before .before .before .before .before .args .left)) (c .before .before .before .before .before .before .before .before .before .before .args .a) (c .before .before .before .before .before .before .before .before .before .before .args .b) (c .before .before .before .loop .p)) (c .before .pair-ends .ensures) (c .if2 .left)), repeat-step (c .before .before .before .before .before .before .before .before .before .before .args .sheet .now) (c .before .before .before .before .before .before .before .before .before .before .args .text .now) (lineFrom (c .before .before .before .before .before .before .before .before .before .before .args .base) (c .before .before .before .before .before .before .before .before .before .before .args .len)) (pairForm (c .before .before .before .before .before .before .before .before .before .before .args .sheet .now) (c .before .before .before .before .before .before .before .before .before .before .args .text .now) (lineFrom (c .before .before .before .before .before .before .before .before .before .before .args .base) (c .before .before .before .before .before .before .before .before .before .before .args .len)) (nodeForm (c .before .before .before .before .before .before .before .before .before .before .args .sheet .now) (c .before .before .before .before .before .before .before .before .before .before .args .text .now) (lineFrom (c .before .before .before .before .before .before .before .before .before .before .args .base) (c .before .before .before .before .before .before .before .before .before .before .args .len)) (c .before .before .before .before .before .before .before .before .before .before .args .left)) (c .before .before .before .before .before .before .before .before .before .before .args .a) (c .before .before .before .before .before .before .before .before .before .before .args .b)) _ _ _ _ _ (c .before .before .loop-test .taken) refl ((c .before .pair-ends .ensures) (c .if2 .left)) (c .before .before .before .loop .inv .1))
+list-ends-loop-again t c = (omega (arith, (c .before .before .before .loop .inv .0), reach-later (c .before .before .before .before .before .before .before .before .before .before .args .sheet .now) _ _ _ (pair-step (c .before .before .before .before .before .before .before .before .before .before .args .sheet .now) (c .before .before .before .before .before .before .before .before .before .before .args .text .now) (lineFrom (c .before .before .before .before .before .before .before .before .before .before .args .base) (c .before .before .before .before .before .before .before .before .before .before .args .len)) (nodeForm (c .before .before .before .before .before .before .before .before .before .before .args .sheet .now) (c .before .before .before .before .before .before .before .before .before .before .args .text .now) (lineFrom (c .before .before .before .before .before .before .before .before .before .before .args .base) (c .before .before .before .before .before .before .before .before .before .before .args .len)) (c .before .before .before .before .before .before .before .before .before .before .args .left)) (node-step (c .before .before .before .before .before .before .before .before .before .before .args .sheet .now) (c .before .before .before .before .before .before .before .before .before .before .args .text .now) (lineFrom (c .before .before .before .before .before .before .before .before .before .before .args .base) (c .before .before .before .before .before .before .before .before .before .before .args .len)) (c .before .before .before .before .before .before .before .before .before .before .args .left)) (c .before .before .before .before .before .before .before .before .before .before .args .a) (c .before .before .before .before .before .before .before .before .before .before .args .b) (c .before .before .before .loop .p)) (c .before .pair-ends .ensures) (c .if2 .left)), repeat-step (c .before .before .before .before .before .before .before .before .before .before .args .sheet .now) (c .before .before .before .before .before .before .before .before .before .before .args .text .now) (lineFrom (c .before .before .before .before .before .before .before .before .before .before .args .base) (c .before .before .before .before .before .before .before .before .before .before .args .len)) (pairForm (c .before .before .before .before .before .before .before .before .before .before .args .sheet .now) (c .before .before .before .before .before .before .before .before .before .before .args .text .now) (lineFrom (c .before .before .before .before .before .before .before .before .before .before .args .base) (c .before .before .before .before .before .before .before .before .before .before .args .len)) (nodeForm (c .before .before .before .before .before .before .before .before .before .before .args .sheet .now) (c .before .before .before .before .before .before .before .before .before .before .args .text .now) (lineFrom (c .before .before .before .before .before .before .before .before .before .before .args .base) (c .before .before .before .before .before .before .before .before .before .before .args .len)) (c .before .before .before .before .before .before .before .before .before .before .args .left)) (c .before .before .before .before .before .before .before .before .before .before .args .a) (c .before .before .before .before .before .before .before .before .before .before .args .b)) _ _ _ _ _ (c .before .before .loop-test .taken) refl ((c .before .pair-ends .ensures .0) (c .if2 .left)) (c .before .before .before .loop .inv .1))
 
--- src/quick.rt:130:1
+-- src/quick.rt:131:1
 list-ends-returns-3 : (t : ℕ) → list-ends-lts.Need-returns-3 (
   take-word-reads.Asked,
   take-word-reads.Learnt,
@@ -2341,9 +2345,9 @@ list-ends-returns-3 : (t : ℕ) → list-ends-lts.Need-returns-3 (
   pair-ends.Post,
 ) (list-ends-at t) list-ends.Post list-ends-Inv-loop list-ends-μ-loop
 unfolding listForm
-list-ends-returns-3 t c = reach-then _ _ _ _ (reach-same _ _ _ (c .before .before .before .before .before .take-word .ensures) (c .before .before .before .before .ends .ensures)) (c .before .before .before .if1 .left) (reach-end _ _ (repeat-end (c .before .before .before .before .before .before .before .before .args .sheet .now) (c .before .before .before .before .before .before .before .before .args .text .now) (lineFrom (c .before .before .before .before .before .before .before .before .args .base) (c .before .before .before .before .before .before .before .before .args .len)) (pairForm (c .before .before .before .before .before .before .before .before .args .sheet .now) (c .before .before .before .before .before .before .before .before .args .text .now) (lineFrom (c .before .before .before .before .before .before .before .before .args .base) (c .before .before .before .before .before .before .before .before .args .len)) (nodeForm (c .before .before .before .before .before .before .before .before .args .sheet .now) (c .before .before .before .before .before .before .before .before .args .text .now) (lineFrom (c .before .before .before .before .before .before .before .before .args .base) (c .before .before .before .before .before .before .before .before .args .len)) (c .before .before .before .before .before .before .before .before .args .left)) (c .before .before .before .before .before .before .before .before .args .a) (c .before .before .before .before .before .before .before .before .args .b)) _ _ _ _ _ (c .loop-test .left) (c .before .loop .inv .1) (c .before .before .payload-at .ensures)))
+list-ends-returns-3 t c = reach-then _ _ _ _ _ (reach-leaf (c .before .before .before .before .before .before .before .before .args .sheet .now) _ _ _ _ (word-ends (c .before .before .before .before .before .before .before .before .args .sheet .now) 4 16777216 (c .before .before .before .before .before .before .before .before .args .at)) (c .before .before .before .before .before .take-word .ensures) (c .before .before .before .before .ends .ensures)) (c .before .before .before .if1 .left) (reach-end _ _ _ (repeat-end (c .before .before .before .before .before .before .before .before .args .sheet .now) (c .before .before .before .before .before .before .before .before .args .text .now) (lineFrom (c .before .before .before .before .before .before .before .before .args .base) (c .before .before .before .before .before .before .before .before .args .len)) (pairForm (c .before .before .before .before .before .before .before .before .args .sheet .now) (c .before .before .before .before .before .before .before .before .args .text .now) (lineFrom (c .before .before .before .before .before .before .before .before .args .base) (c .before .before .before .before .before .before .before .before .args .len)) (nodeForm (c .before .before .before .before .before .before .before .before .args .sheet .now) (c .before .before .before .before .before .before .before .before .args .text .now) (lineFrom (c .before .before .before .before .before .before .before .before .args .base) (c .before .before .before .before .before .before .before .before .args .len)) (c .before .before .before .before .before .before .before .before .args .left)) (c .before .before .before .before .before .before .before .before .args .a) (c .before .before .before .before .before .before .before .before .args .b)) _ _ _ _ _ (c .loop-test .left) (c .before .loop .inv .1) (c .before .before .payload-at .ensures)) (c .before .loop .inv .0))
 
--- src/quick.rt:295:18
+-- src/quick.rt:296:18
 node-ends-head-form-requires : (t : ℕ) → node-ends-lts.Need-head-form-requires (
   head-form-reads.Asked,
   head-form-reads.Learnt,
@@ -2358,7 +2362,7 @@ node-ends-head-form-requires : (t : ℕ) → node-ends-lts.Need-head-form-requir
 ) (node-ends-at t) node-ends.Post
 node-ends-head-form-requires t c κs = search needs
 
--- src/quick.rt:295:9
+-- src/quick.rt:296:9
 node-ends-ends-requires : (t : ℕ) → node-ends-lts.Need-ends-requires (
   head-form-reads.Asked,
   head-form-reads.Learnt,
@@ -2373,7 +2377,7 @@ node-ends-ends-requires : (t : ℕ) → node-ends-lts.Need-ends-requires (
 ) (node-ends-at t) node-ends.Post
 node-ends-ends-requires t c κs = search needs
 
--- src/quick.rt:297:9
+-- src/quick.rt:298:9
 node-ends-returns : (t : ℕ) → node-ends-lts.Need-returns (
   head-form-reads.Asked,
   head-form-reads.Learnt,
@@ -2386,9 +2390,9 @@ node-ends-returns : (t : ℕ) → node-ends-lts.Need-returns (
   body-ends-below t,
   body-ends.Post,
 ) (node-ends-at t) node-ends.Post
-node-ends-returns t c = nowhere _
+node-ends-returns t c = head-stops (c .before .before .before .before .before .args .sheet .now) (c .before .before .before .before .before .args .text .now) (lineFrom (c .before .before .before .before .before .args .base) (c .before .before .before .before .before .args .len)) _ _ _ _ (reach-leaf (c .before .before .before .before .before .args .sheet .now) _ _ _ _ (head-step (c .before .before .before .before .before .args .sheet .now) (c .before .before .before .before .before .args .c) (c .before .before .before .before .before .args .at)) (c .before .before .head-form .ensures) (c .before .ends .ensures)) (c .if1 .taken)
 
--- src/quick.rt:299:9
+-- src/quick.rt:300:9
 node-ends-payload-at-requires : (t : ℕ) → node-ends-lts.Need-payload-at-requires (
   head-form-reads.Asked,
   head-form-reads.Learnt,
@@ -2403,7 +2407,7 @@ node-ends-payload-at-requires : (t : ℕ) → node-ends-lts.Need-payload-at-requ
 ) (node-ends-at t) node-ends.Post
 node-ends-payload-at-requires t c κs = search needs
 
--- src/quick.rt:300:8
+-- src/quick.rt:301:8
 node-ends-is-fseek-requires : (t : ℕ) → node-ends-lts.Need-is-fseek-requires (
   head-form-reads.Asked,
   head-form-reads.Learnt,
@@ -2418,7 +2422,7 @@ node-ends-is-fseek-requires : (t : ℕ) → node-ends-lts.Need-is-fseek-requires
 ) (node-ends-at t) node-ends.Post
 node-ends-is-fseek-requires t c κs = search needs
 
--- src/quick.rt:301:9
+-- src/quick.rt:302:9
 node-ends-returns-2 : (t : ℕ) → node-ends-lts.Need-returns-2 (
   head-form-reads.Asked,
   head-form-reads.Learnt,
@@ -2431,9 +2435,9 @@ node-ends-returns-2 : (t : ℕ) → node-ends-lts.Need-returns-2 (
   body-ends-below t,
   body-ends.Post,
 ) (node-ends-at t) node-ends.Post
-node-ends-returns-2 t c = nowhere _
+node-ends-returns-2 t c = fseek-stops (c .before .before .before .before .before .before .before .before .args .sheet .now) (c .before .before .before .before .before .before .before .before .args .text .now) (lineFrom (c .before .before .before .before .before .before .before .before .args .base) (c .before .before .before .before .before .before .before .before .args .len)) _ _ _ _ _ _ (reach-leaf (c .before .before .before .before .before .before .before .before .args .sheet .now) _ _ _ _ (head-step (c .before .before .before .before .before .before .before .before .args .sheet .now) (c .before .before .before .before .before .before .before .before .args .c) (c .before .before .before .before .before .before .before .before .args .at)) (c .before .before .before .before .before .head-form .ensures) (c .before .before .before .before .ends .ensures)) (c .before .before .before .if1 .left) (c .before .before .payload-at .ensures) (c .before .is-fseek .ensures) (c .if2 .taken)
 
--- src/quick.rt:306:47
+-- src/quick.rt:307:47
 node-ends-sub-body-ends : (t : ℕ) → node-ends-lts.Need-sub-body-ends (
   head-form-reads.Asked,
   head-form-reads.Learnt,
@@ -2448,7 +2452,7 @@ node-ends-sub-body-ends : (t : ℕ) → node-ends-lts.Need-sub-body-ends (
 ) (node-ends-at t) node-ends.Post
 node-ends-sub-body-ends t c = search needs
 
--- src/quick.rt:306:9
+-- src/quick.rt:307:9
 node-ends-body-ends-requires : (t : ℕ) → node-ends-lts.Need-body-ends-requires (
   head-form-reads.Asked,
   head-form-reads.Learnt,
@@ -2461,9 +2465,9 @@ node-ends-body-ends-requires : (t : ℕ) → node-ends-lts.Need-body-ends-requir
   body-ends-below t,
   body-ends.Post,
 ) (node-ends-at t) node-ends.Post
-node-ends-body-ends-requires t c κs = let h = head-moves (c .before .before .before .before .before .before .before .before .before .args .sheet .now) (c .before .before .before .before .before .before .before .before .before .args .c) (c .before .before .before .before .before .before .before .before .before .args .at) _ _ refl ((reach-same _ _ _ (c .before .before .before .before .before .before .head-form .ensures) (c .before .before .before .before .before .ends .ensures)) (c .before .before .before .before .if1 .left)) in omega (arith, (c .before .before .before .before .before .before .before .before .before .pre .0), h .0, h .1)
+node-ends-body-ends-requires t c κs = let h = head-moves (c .before .before .before .before .before .before .before .before .before .args .sheet .now) (c .before .before .before .before .before .before .before .before .before .args .c) (c .before .before .before .before .before .before .before .before .before .args .at) _ _ refl ((reach-leaf (c .before .before .before .before .before .before .before .before .before .args .sheet .now) _ _ _ _ (head-step (c .before .before .before .before .before .before .before .before .before .args .sheet .now) (c .before .before .before .before .before .before .before .before .before .args .c) (c .before .before .before .before .before .before .before .before .before .args .at)) (c .before .before .before .before .before .before .head-form .ensures) (c .before .before .before .before .before .ends .ensures)) .0 (c .before .before .before .before .if1 .left)) in omega (arith, (c .before .before .before .before .before .before .before .before .before .pre .0), h .0, h .1)
 
--- src/quick.rt:284:1
+-- src/quick.rt:285:1
 node-ends-returns-3 : (t : ℕ) → node-ends-lts.Need-returns-3 (
   head-form-reads.Asked,
   head-form-reads.Learnt,
@@ -2476,9 +2480,9 @@ node-ends-returns-3 : (t : ℕ) → node-ends-lts.Need-returns-3 (
   body-ends-below t,
   body-ends.Post,
 ) (node-ends-at t) node-ends.Post
-node-ends-returns-3 t c = nowhere _
+node-ends-returns-3 t c = depth-stops (c .before .before .before .before .before .before .before .before .before .args .sheet .now) (c .before .before .before .before .before .before .before .before .before .args .text .now) (lineFrom (c .before .before .before .before .before .before .before .before .before .args .base) (c .before .before .before .before .before .before .before .before .before .args .len)) _ _ _ _ (reach-leaf (c .before .before .before .before .before .before .before .before .before .args .sheet .now) _ _ _ _ (head-step (c .before .before .before .before .before .before .before .before .before .args .sheet .now) (c .before .before .before .before .before .before .before .before .before .args .c) (c .before .before .before .before .before .before .before .before .before .args .at)) (c .before .before .before .before .before .before .head-form .ensures) (c .before .before .before .before .before .ends .ensures)) (c .before .before .before .before .if1 .left) (c .if3 .taken)
 
--- src/quick.rt:284:1
+-- src/quick.rt:285:1
 node-ends-returns-4 : (t : ℕ) → node-ends-lts.Need-returns-4 (
   head-form-reads.Asked,
   head-form-reads.Learnt,
@@ -2491,22 +2495,23 @@ node-ends-returns-4 : (t : ℕ) → node-ends-lts.Need-returns-4 (
   body-ends-below t,
   body-ends.Post,
 ) (node-ends-at t) node-ends.Post
-node-ends-returns-4 t c = reach-node (c .before .before .before .before .before .before .before .before .before .before .args .sheet .now) (c .before .before .before .before .before .before .before .before .before .before .args .text .now) (lineFrom (c .before .before .before .before .before .before .before .before .before .before .args .base) (c .before .before .before .before .before .before .before .before .before .before .args .len)) _ _ _ _ _ _ _ (reach-same _ _ _ (c .before .before .before .before .before .before .before .head-form .ensures) (c .before .before .before .before .before .before .ends .ensures)) (c .before .before .before .before .before .if1 .left) (c .before .if3 .left) (c .before .before .before .before .payload-at .ensures) (c .before .before .before .is-fseek .ensures) (c .before .before .if2 .left) (c .body-ends .ensures)
+node-ends-returns-4 t c = reach-node (c .before .before .before .before .before .before .before .before .before .before .args .sheet .now) (c .before .before .before .before .before .before .before .before .before .before .args .text .now) (lineFrom (c .before .before .before .before .before .before .before .before .before .before .args .base) (c .before .before .before .before .before .before .before .before .before .before .args .len)) _ _ _ _ _ _ _ (reach-leaf (c .before .before .before .before .before .before .before .before .before .before .args .sheet .now) _ _ _ _ (head-step (c .before .before .before .before .before .before .before .before .before .before .args .sheet .now) (c .before .before .before .before .before .before .before .before .before .before .args .c) (c .before .before .before .before .before .before .before .before .before .before .args .at)) (c .before .before .before .before .before .before .before .head-form .ensures) (c .before .before .before .before .before .before .ends .ensures)) (c .before .before .before .before .before .if1 .left) (c .before .if3 .left) (c .before .before .before .before .payload-at .ensures) (c .before .before .before .is-fseek .ensures) (c .before .before .if2 .left) (c .body-ends .ensures)
 
--- src/quick.rt:119:9
+-- src/quick.rt:120:9
 pair-ends-item-ends-requires : (t : ℕ) → pair-ends-lts.Need-item-ends-requires (
   item-ends-below t,
   item-ends.Post,
 ) (pair-ends-at t) pair-ends.Post
 pair-ends-item-ends-requires t c κs = omega (arith, (c .before .before .pre .0))
 
--- src/quick.rt:121:9
+-- src/quick.rt:122:9
 pair-ends-returns :
     (t : ℕ) →
     pair-ends-lts.Need-returns (item-ends-below t, item-ends.Post) (pair-ends-at t) pair-ends.Post
-pair-ends-returns t c = nowhere _
+unfolding pairForm
+pair-ends-returns t c = reach-stop _ _ _ _ (c .before .item-ends .ensures) (c .if1 .taken)
 
--- src/quick.rt:124:26
+-- src/quick.rt:125:26
 pair-ends-enum-told :
     (t : ℕ) →
     pair-ends-lts.Need-enum-told
@@ -2515,14 +2520,14 @@ pair-ends-enum-told :
     pair-ends.Post
 pair-ends-enum-told t c = search needs
 
--- src/quick.rt:125:14
+-- src/quick.rt:126:14
 pair-ends-item-ends-requires-2 : (t : ℕ) → pair-ends-lts.Need-item-ends-requires-2 (
   item-ends-below t,
   item-ends.Post,
 ) (pair-ends-at t) pair-ends.Post
 pair-ends-item-ends-requires-2 t c κs = omega (arith, (c .before .before .before .before .before .pre .0), reach-later (c .before .before .before .before .before .args .sheet .now) _ _ _ (item-step (c .before .before .before .before .before .args .sheet .now) (c .before .before .before .before .before .args .text .now) (lineFrom (c .before .before .before .before .before .args .base) (c .before .before .before .before .before .args .len)) (nodeForm (c .before .before .before .before .before .args .sheet .now) (c .before .before .before .before .before .args .text .now) (lineFrom (c .before .before .before .before .before .args .base) (c .before .before .before .before .before .args .len)) (c .before .before .before .before .before .args .left)) (node-step (c .before .before .before .before .before .args .sheet .now) (c .before .before .before .before .before .args .text .now) (lineFrom (c .before .before .before .before .before .args .base) (c .before .before .before .before .before .args .len)) (c .before .before .before .before .before .args .left)) (c .before .before .before .before .before .args .a) (c .before .before .before .before .before .args .at)) (c .before .before .item-ends .ensures) (c .before .if1 .left))
 
--- src/quick.rt:107:1
+-- src/quick.rt:108:1
 pair-ends-returns-2 :
     (t : ℕ) →
     pair-ends-lts.Need-returns-2
@@ -2530,9 +2535,9 @@ pair-ends-returns-2 :
     (pair-ends-at t)
     pair-ends.Post
 unfolding pairForm itemForm
-pair-ends-returns-2 t c = rw (c .enum-told .given .1) (reach-then _ _ _ _ (c .before .before .before .item-ends .ensures) (c .before .before .if1 .left) (reach-end _ _ refl))
+pair-ends-returns-2 t c = rw (c .enum-told .given .1) (reach-then _ _ _ _ _ (c .before .before .before .item-ends .ensures) (c .before .before .if1 .left) (reach-end (c .before .before .before .item-ends .result) (c .before .before .before .item-ends .result) _ refl (omega arith)))
 
--- src/quick.rt:107:1
+-- src/quick.rt:108:1
 pair-ends-returns-3 :
     (t : ℕ) →
     pair-ends-lts.Need-returns-3
@@ -2540,9 +2545,9 @@ pair-ends-returns-3 :
     (pair-ends-at t)
     pair-ends.Post
 unfolding pairForm
-pair-ends-returns-3 t c = reach-then _ _ _ _ (c .before .before .before .item-ends .ensures) (c .before .before .if1 .left) (c .item-ends2 .ensures)
+pair-ends-returns-3 t c = reach-then _ _ _ _ _ (c .before .before .before .item-ends .ensures) (c .before .before .if1 .left) (c .item-ends2 .ensures)
 
--- src/quick.rt:39:18
+-- src/quick.rt:40:18
 source-ends-take-word-requires : (t : ℕ) → source-ends-lts.Need-take-word-requires (
   take-word-reads.Asked,
   take-word-reads.Learnt,
@@ -2557,7 +2562,7 @@ source-ends-take-word-requires : (t : ℕ) → source-ends-lts.Need-take-word-re
 ) (source-ends-at t) source-ends.Post
 source-ends-take-word-requires t c κs = search needs
 
--- src/quick.rt:39:9
+-- src/quick.rt:40:9
 source-ends-ends-requires : (t : ℕ) → source-ends-lts.Need-ends-requires (
   take-word-reads.Asked,
   take-word-reads.Learnt,
@@ -2572,7 +2577,7 @@ source-ends-ends-requires : (t : ℕ) → source-ends-lts.Need-ends-requires (
 ) (source-ends-at t) source-ends.Post
 source-ends-ends-requires t c κs = search needs
 
--- src/quick.rt:41:9
+-- src/quick.rt:42:9
 source-ends-returns : (t : ℕ) → source-ends-lts.Need-returns (
   take-word-reads.Asked,
   take-word-reads.Learnt,
@@ -2585,9 +2590,10 @@ source-ends-returns : (t : ℕ) → source-ends-lts.Need-returns (
   node-ends-below t,
   node-ends.Post,
 ) (source-ends-at t) source-ends.Post
-source-ends-returns t c = nowhere _
+unfolding itemForm
+source-ends-returns t c = reach-stop _ _ _ _ (reach-leaf (c .before .before .before .before .before .args .sheet .now) _ _ _ _ (word-ends (c .before .before .before .before .before .args .sheet .now) 7 3 (c .before .before .before .before .before .args .at)) (c .before .before .take-word .ensures) (c .before .ends .ensures)) (c .if1 .taken)
 
--- src/quick.rt:43:9
+-- src/quick.rt:44:9
 source-ends-payload-at-requires : (t : ℕ) → source-ends-lts.Need-payload-at-requires (
   take-word-reads.Asked,
   take-word-reads.Learnt,
@@ -2602,7 +2608,7 @@ source-ends-payload-at-requires : (t : ℕ) → source-ends-lts.Need-payload-at-
 ) (source-ends-at t) source-ends.Post
 source-ends-payload-at-requires t c κs = search needs
 
--- src/quick.rt:45:9
+-- src/quick.rt:46:9
 source-ends-returns-2 : (t : ℕ) → source-ends-lts.Need-returns-2 (
   take-word-reads.Asked,
   take-word-reads.Learnt,
@@ -2616,9 +2622,9 @@ source-ends-returns-2 : (t : ℕ) → source-ends-lts.Need-returns-2 (
   node-ends.Post,
 ) (source-ends-at t) source-ends.Post
 unfolding itemForm
-source-ends-returns-2 t c = reach-then _ _ _ _ (reach-same _ _ _ (c .before .before .before .before .take-word .ensures) (c .before .before .before .ends .ensures)) (c .before .before .if1 .left) (reach-end _ _ (source-keyboard (c .before .before .before .before .before .before .before .args .sheet .now) (c .before .before .before .before .before .before .before .args .text .now) (lineFrom (c .before .before .before .before .before .before .before .args .base) (c .before .before .before .before .before .before .before .args .len)) (nodeForm (c .before .before .before .before .before .before .before .args .sheet .now) (c .before .before .before .before .before .before .before .args .text .now) (lineFrom (c .before .before .before .before .before .before .before .args .base) (c .before .before .before .before .before .before .before .args .len)) (c .before .before .before .before .before .before .before .args .left)) _ _ _ (c .before .payload-at .ensures) (c .if2 .taken)))
+source-ends-returns-2 t c = reach-then _ _ _ _ _ (reach-leaf (c .before .before .before .before .before .before .before .args .sheet .now) _ _ _ _ (word-ends (c .before .before .before .before .before .before .before .args .sheet .now) 7 3 (c .before .before .before .before .before .before .before .args .at)) (c .before .before .before .before .take-word .ensures) (c .before .before .before .ends .ensures)) (c .before .before .if1 .left) (reach-end (c .before .before .before .ends .result) (c .before .before .before .ends .result) _ (source-keyboard (c .before .before .before .before .before .before .before .args .sheet .now) (c .before .before .before .before .before .before .before .args .text .now) (lineFrom (c .before .before .before .before .before .before .before .args .base) (c .before .before .before .before .before .before .before .args .len)) (nodeForm (c .before .before .before .before .before .before .before .args .sheet .now) (c .before .before .before .before .before .before .before .args .text .now) (lineFrom (c .before .before .before .before .before .before .before .args .base) (c .before .before .before .before .before .before .before .args .len)) (c .before .before .before .before .before .before .before .args .left)) _ _ _ (c .before .payload-at .ensures) (c .if2 .taken)) (omega arith))
 
--- src/quick.rt:48:21
+-- src/quick.rt:49:21
 source-ends-text-form-requires : (t : ℕ) → source-ends-lts.Need-text-form-requires (
   take-word-reads.Asked,
   take-word-reads.Learnt,
@@ -2633,7 +2639,7 @@ source-ends-text-form-requires : (t : ℕ) → source-ends-lts.Need-text-form-re
 ) (source-ends-at t) source-ends.Post
 source-ends-text-form-requires t c κs = search needs
 
--- src/quick.rt:48:9
+-- src/quick.rt:49:9
 source-ends-ends-requires-2 : (t : ℕ) → source-ends-lts.Need-ends-requires-2 (
   take-word-reads.Asked,
   take-word-reads.Learnt,
@@ -2648,7 +2654,7 @@ source-ends-ends-requires-2 : (t : ℕ) → source-ends-lts.Need-ends-requires-2
 ) (source-ends-at t) source-ends.Post
 source-ends-ends-requires-2 t c κs = search needs
 
--- src/quick.rt:48:9
+-- src/quick.rt:49:9
 source-ends-returns-3 : (t : ℕ) → source-ends-lts.Need-returns-3 (
   take-word-reads.Asked,
   take-word-reads.Learnt,
@@ -2662,9 +2668,9 @@ source-ends-returns-3 : (t : ℕ) → source-ends-lts.Need-returns-3 (
   node-ends.Post,
 ) (source-ends-at t) source-ends.Post
 unfolding itemForm
-source-ends-returns-3 t c = reach-then _ _ _ _ (reach-same _ _ _ (c .before .before .before .before .before .before .before .take-word .ensures) (c .before .before .before .before .before .before .ends .ensures)) (c .before .before .before .before .before .if1 .left) (reach-same _ _ _ (source-prompt (c .before .before .before .before .before .before .before .before .before .before .args .sheet .now) (c .before .before .before .before .before .before .before .before .before .before .args .text .now) (lineFrom (c .before .before .before .before .before .before .before .before .before .before .args .base) (c .before .before .before .before .before .before .before .before .before .before .args .len)) (nodeForm (c .before .before .before .before .before .before .before .before .before .before .args .sheet .now) (c .before .before .before .before .before .before .before .before .before .before .args .text .now) (lineFrom (c .before .before .before .before .before .before .before .before .before .before .args .base) (c .before .before .before .before .before .before .before .before .before .before .args .len)) (c .before .before .before .before .before .before .before .before .before .before .args .left)) _ _ _ _ (c .before .before .before .before .payload-at .ensures) (c .before .before .if3 .taken) (c .before .text-form .ensures)) (c .ends2 .ensures))
+source-ends-returns-3 t c = reach-then _ _ _ _ _ (reach-leaf (c .before .before .before .before .before .before .before .before .before .before .args .sheet .now) _ _ _ _ (word-ends (c .before .before .before .before .before .before .before .before .before .before .args .sheet .now) 7 3 (c .before .before .before .before .before .before .before .before .before .before .args .at)) (c .before .before .before .before .before .before .before .take-word .ensures) (c .before .before .before .before .before .before .ends .ensures)) (c .before .before .before .before .before .if1 .left) (reach-same _ _ _ _ (source-prompt (c .before .before .before .before .before .before .before .before .before .before .args .sheet .now) (c .before .before .before .before .before .before .before .before .before .before .args .text .now) (lineFrom (c .before .before .before .before .before .before .before .before .before .before .args .base) (c .before .before .before .before .before .before .before .before .before .before .args .len)) (nodeForm (c .before .before .before .before .before .before .before .before .before .before .args .sheet .now) (c .before .before .before .before .before .before .before .before .before .before .args .text .now) (lineFrom (c .before .before .before .before .before .before .before .before .before .before .args .base) (c .before .before .before .before .before .before .before .before .before .before .args .len)) (c .before .before .before .before .before .before .before .before .before .before .args .left)) _ _ _ _ (c .before .before .before .before .payload-at .ensures) (c .before .before .if3 .taken) refl) (reach-leaf (c .before .before .before .before .before .before .before .before .before .before .args .sheet .now) _ _ _ _ (text-ends (c .before .before .before .before .before .before .before .before .before .before .args .sheet .now) (lineFrom (c .before .before .before .before .before .before .before .before .before .before .args .base) (c .before .before .before .before .before .before .before .before .before .before .args .len)) _) (c .before .text-form .ensures) (c .ends2 .ensures)))
 
--- src/quick.rt:50:5
+-- src/quick.rt:51:5
 source-ends-node-ends-requires : (t : ℕ) → source-ends-lts.Need-node-ends-requires (
   take-word-reads.Asked,
   take-word-reads.Learnt,
@@ -2677,9 +2683,9 @@ source-ends-node-ends-requires : (t : ℕ) → source-ends-lts.Need-node-ends-re
   node-ends-below t,
   node-ends.Post,
 ) (source-ends-at t) source-ends.Post
-source-ends-node-ends-requires t c κs = omega (arith, (c .before .before .before .before .before .before .before .before .pre .0), reach-later (c .before .before .before .before .before .before .before .before .args .sheet .now) _ _ _ (word-ends (c .before .before .before .before .before .before .before .before .args .sheet .now) 7 3 (c .before .before .before .before .before .before .before .before .args .at)) (reach-same _ _ _ (c .before .before .before .before .before .take-word .ensures) (c .before .before .before .before .ends .ensures)) (c .before .before .before .if1 .left))
+source-ends-node-ends-requires t c κs = omega (arith, (c .before .before .before .before .before .before .before .before .pre .0), reach-later (c .before .before .before .before .before .before .before .before .args .sheet .now) _ _ _ (word-ends (c .before .before .before .before .before .before .before .before .args .sheet .now) 7 3 (c .before .before .before .before .before .before .before .before .args .at)) (reach-leaf (c .before .before .before .before .before .before .before .before .args .sheet .now) _ _ _ _ (word-ends (c .before .before .before .before .before .before .before .before .args .sheet .now) 7 3 (c .before .before .before .before .before .before .before .before .args .at)) (c .before .before .before .before .before .take-word .ensures) (c .before .before .before .before .ends .ensures)) (c .before .before .before .if1 .left))
 
--- src/quick.rt:29:1
+-- src/quick.rt:30:1
 source-ends-returns-4 : (t : ℕ) → source-ends-lts.Need-returns-4 (
   take-word-reads.Asked,
   take-word-reads.Learnt,
@@ -2693,7 +2699,7 @@ source-ends-returns-4 : (t : ℕ) → source-ends-lts.Need-returns-4 (
   node-ends.Post,
 ) (source-ends-at t) source-ends.Post
 unfolding itemForm
-source-ends-returns-4 t c = reach-then _ _ _ _ (reach-same _ _ _ (c .before .before .before .before .before .before .take-word .ensures) (c .before .before .before .before .before .ends .ensures)) (c .before .before .before .before .if1 .left) (reach-same _ _ _ (source-file (c .before .before .before .before .before .before .before .before .before .args .sheet .now) (c .before .before .before .before .before .before .before .before .before .args .text .now) (lineFrom (c .before .before .before .before .before .before .before .before .before .args .base) (c .before .before .before .before .before .before .before .before .before .args .len)) (nodeForm (c .before .before .before .before .before .before .before .before .before .args .sheet .now) (c .before .before .before .before .before .before .before .before .before .args .text .now) (lineFrom (c .before .before .before .before .before .before .before .before .before .args .base) (c .before .before .before .before .before .before .before .before .before .args .len)) (c .before .before .before .before .before .before .before .before .before .args .left)) _ _ _ _ (c .before .before .before .payload-at .ensures) (c .before .before .if2 .left) (c .before .if3 .left) refl) (c .node-ends .ensures))
+source-ends-returns-4 t c = reach-then _ _ _ _ _ (reach-leaf (c .before .before .before .before .before .before .before .before .before .args .sheet .now) _ _ _ _ (word-ends (c .before .before .before .before .before .before .before .before .before .args .sheet .now) 7 3 (c .before .before .before .before .before .before .before .before .before .args .at)) (c .before .before .before .before .before .before .take-word .ensures) (c .before .before .before .before .before .ends .ensures)) (c .before .before .before .before .if1 .left) (reach-same _ _ _ _ (source-file (c .before .before .before .before .before .before .before .before .before .args .sheet .now) (c .before .before .before .before .before .before .before .before .before .args .text .now) (lineFrom (c .before .before .before .before .before .before .before .before .before .args .base) (c .before .before .before .before .before .before .before .before .before .args .len)) (nodeForm (c .before .before .before .before .before .before .before .before .before .args .sheet .now) (c .before .before .before .before .before .before .before .before .before .args .text .now) (lineFrom (c .before .before .before .before .before .before .before .before .before .args .base) (c .before .before .before .before .before .before .before .before .before .args .len)) (c .before .before .before .before .before .before .before .before .before .args .left)) _ _ _ _ (c .before .before .before .payload-at .ensures) (c .before .before .if2 .left) (c .before .if3 .left) refl) (c .node-ends .ensures))
 
 pub +body-ends+element-ends+field-ends+fields-ends+item-ends+list-ends+node-ends+pair-ends+source-ends-spec :
     {M : Type 1} → statement M

@@ -1,9 +1,11 @@
 use borrow.Author.Needs.{needs}
 use native.Mathlib.Omega.{arith}
 use mathlib.Core.Path.{_≡_, refl, sym, _∙_}
+use Prim.Native.Nat.{_≤_}
 use Rattle.sheet.specs.Form.{linesForm}
-use Rattle.walk.proofs.Lines.{line-fits, lines-step, lines-end}
-use Rattle.walk.proofs.Reaches.{nowhere, reach-same}
+use Rattle.walk.proofs.Lines.{line-fits, lines-step}
+use Rattle.walk.proofs.Within.{line-ends}
+use Rattle.walk.proofs.Reaches.{reach-later, lines-stops, reach-lines}
 use Rattle.walk.proofs.quick.lines_ends.Statement.{statement}
 use Rattle.walk.proofs.quick.lines_ends.Tie as tie
 use Rattle.walk.proofs.quick.lines_ends.Reads as reads
@@ -14,58 +16,58 @@ use Rattle.walk.proofs.quick.line_ends.Reads as line-ends-reads
 use Rattle.walk.proofs.stmt.end_form.Reads as end-form-reads
 
 abbrev Inv-loop : tie.InvT-loop
-Inv-loop sheet text n at base₀ p₀ left₀ base p left = linesForm sheet text left base p ≡ linesForm sheet text left₀ base₀ p₀
+Inv-loop sheet text n at base₀ p₀ left₀ base p left = (p₀ ≤ p) × (linesForm sheet text left base p ≡ linesForm sheet text left₀ base₀ p₀)
 
 abbrev μ-loop : tie.MeasureT-loop
 μ-loop sheet text n at base₀ p₀ left₀ base p left = left
 
--- src/quick.rt:291:5
+-- src/quick.rt:348:5
 loop-holds : tie.Need-loop-holds Inv-loop μ-loop
-loop-holds c = refl
+loop-holds c = (omega arith, refl)
 
--- src/quick.rt:292:13
+-- src/quick.rt:349:13
 line-ends-requires : tie.Need-line-ends-requires Inv-loop μ-loop
 line-ends-requires c κs = search needs
 
--- src/quick.rt:294:13
+-- src/quick.rt:351:13
 returns : tie.Need-returns Inv-loop μ-loop
-returns c = nowhere _
+returns c = lines-stops (c .before .before .before .before .before .before .args .sheet .now) (c .before .before .before .before .before .before .args .text .now) _ _ _ _ _ _ (c .before .before .loop-test .taken) (c .before .line-ends .ensures) (c .if1 .taken) (c .before .before .before .loop .inv .0) (c .before .before .before .loop .inv .1)
 
--- src/quick.rt:296:19
+-- src/quick.rt:353:19
 payload-at-requires : tie.Need-payload-at-requires Inv-loop μ-loop
 payload-at-requires c κs = search needs
 
--- src/quick.rt:296:19
+-- src/quick.rt:353:19
 cast-len : tie.Need-cast-len Inv-loop μ-loop
 cast-len c = search needs
 
--- src/quick.rt:297:9
+-- src/quick.rt:354:9
 add-base : tie.Need-add-base Inv-loop μ-loop
-add-base c = omega (arith, (c .payload-at .ensures), line-fits (c .before .before .before .before .before .before .before .args .sheet .now) (c .before .before .before .before .before .before .before .args .text .now) _ _ _ _ refl ((c .before .before .line-ends .ensures) (c .before .if1 .left)))
+add-base c = omega (arith, (c .payload-at .ensures), line-fits (c .before .before .before .before .before .before .before .args .sheet .now) (c .before .before .before .before .before .before .before .args .text .now) _ _ _ _ refl ((c .before .before .line-ends .ensures .0) (c .before .if1 .left)))
 
--- src/quick.rt:299:9
+-- src/quick.rt:356:9
 sub-left : tie.Need-sub-left Inv-loop μ-loop
 sub-left c = search needs
 
--- src/quick.rt:291:5
+-- src/quick.rt:348:5
 loop-less : tie.Need-loop-less Inv-loop μ-loop
 loop-less c = omega (arith, (c .before .before .before .loop-test .taken))
 
--- src/quick.rt:291:5
+-- src/quick.rt:348:5
 loop-again : tie.Need-loop-again Inv-loop μ-loop
-loop-again c = lines-step (c .before .before .before .before .before .before .before .args .sheet .now) (c .before .before .before .before .before .before .before .args .text .now) _ _ _ _ _ _ _ (c .before .before .before .loop-test .taken) refl ((c .before .before .line-ends .ensures) (c .before .if1 .left)) (c .payload-at .ensures) (c .before .before .before .before .loop .inv)
+loop-again c = (omega (arith, (c .before .before .before .before .loop .inv .0), reach-later (c .before .before .before .before .before .before .before .args .sheet .now) _ _ _ (line-ends (c .before .before .before .before .before .before .before .args .sheet .now) (c .before .before .before .before .before .before .before .args .text .now) (c .before .before .before .before .loop .base) (c .before .before .before .before .loop .p)) (c .before .before .line-ends .ensures) (c .before .if1 .left)), lines-step (c .before .before .before .before .before .before .before .args .sheet .now) (c .before .before .before .before .before .before .before .args .text .now) _ _ _ _ _ _ _ (c .before .before .before .loop-test .taken) refl ((c .before .before .line-ends .ensures .0) (c .before .if1 .left)) (c .payload-at .ensures) (c .before .before .before .before .loop .inv .1))
 
--- src/quick.rt:301:10
+-- src/quick.rt:358:10
 end-form-requires : tie.Need-end-form-requires Inv-loop μ-loop
 end-form-requires c κs = search needs
 
--- src/quick.rt:301:5
+-- src/quick.rt:358:5
 ends-requires : tie.Need-ends-requires Inv-loop μ-loop
 ends-requires c κs = search needs
 
--- src/quick.rt:285:1
+-- src/quick.rt:342:1
 returns-2 : tie.Need-returns-2 Inv-loop μ-loop
-returns-2 c = reach-same _ _ _ (lines-end (c .before .before .before .before .before .before .args .sheet .now) (c .before .before .before .before .before .before .args .text .now) _ _ _ _ _ (c .before .before .loop-test .left) (c .before .end-form .ensures) (c .before .before .before .loop .inv)) (c .ends .ensures)
+returns-2 c = reach-lines (c .before .before .before .before .before .before .args .sheet .now) (c .before .before .before .before .before .before .args .text .now) _ _ _ _ _ _ _ (c .before .before .loop-test .left) (c .before .end-form .ensures) (c .ends .ensures) (c .before .before .before .loop .inv .0) (c .before .before .before .loop .inv .1)
 
 pub lines-ends-spec : {M : Type 1} → statement M
 lines-ends-spec =

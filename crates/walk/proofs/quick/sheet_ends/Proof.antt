@@ -1,4 +1,4 @@
-use Rattle.walk.proofs.Reaches.{nowhere, reach-same, reach-sheet}
+use Rattle.walk.proofs.Reaches.{sheet-stops, reach-sheet}
 use borrow.Author.Needs.{needs}
 use Rattle.walk.proofs.quick.sheet_ends.Statement.{statement}
 use Rattle.walk.proofs.quick.sheet_ends.Tie as tie
@@ -9,29 +9,29 @@ use Rattle.sheet.proofs.leaf.take_word.Reads as take-word-reads
 use Rattle.walk.proofs.quick.ends.Reads as ends-reads
 use Rattle.walk.proofs.quick.lines_ends.Reads as lines-ends-reads
 
--- src/quick.rt:308:18
+-- src/quick.rt:365:18
 take-word-requires : tie.Need-take-word-requires
 take-word-requires c κs = search needs
 
--- src/quick.rt:308:9
+-- src/quick.rt:365:9
 ends-requires : tie.Need-ends-requires
 ends-requires c κs = search needs
 
--- src/quick.rt:310:9
+-- src/quick.rt:367:9
 returns : tie.Need-returns
-returns c = nowhere _
+returns c = sheet-stops (c .before .before .before .before .before .args .sheet .now) (c .before .before .before .before .before .args .text .now) _ _ (c .before .before .take-word .ensures) (c .before .ends .ensures) (c .if1 .taken)
 
--- src/quick.rt:312:29
+-- src/quick.rt:369:29
 payload-at-requires : tie.Need-payload-at-requires
 payload-at-requires c κs = search needs
 
--- src/quick.rt:312:5
+-- src/quick.rt:369:5
 lines-ends-requires : tie.Need-lines-ends-requires
 lines-ends-requires c κs = search needs
 
--- src/quick.rt:305:1
+-- src/quick.rt:362:1
 returns-2 : tie.Need-returns-2
-returns-2 c = reach-sheet (c .before .before .before .before .before .before .before .args .sheet .now) (c .before .before .before .before .before .before .before .args .text .now) _ _ _ (reach-same _ _ _ (c .before .before .before .before .take-word .ensures) (c .before .before .before .ends .ensures)) (c .before .before .if1 .left) (c .before .payload-at .ensures) (c .lines-ends .ensures)
+returns-2 c = reach-sheet (c .before .before .before .before .before .before .before .args .sheet .now) (c .before .before .before .before .before .before .before .args .text .now) _ _ _ _ (c .before .before .before .before .take-word .ensures) (c .before .before .before .ends .ensures) (c .before .before .if1 .left) (c .before .payload-at .ensures) (c .lines-ends .ensures)
 
 pub sheet-ends-spec : {M : Type 1} → statement M
 sheet-ends-spec =

@@ -10,11 +10,11 @@ use Rattle.walk.proofs.quick.stmts_ends.Reads as reads
 use Rattle.walk.proofs.quick.stmts_ends.Lts as lts
 use Rattle.walk.proofs.quick.list_ends.Reads as list-ends-reads
 
--- src/quick.rt:314:5
+-- src/quick.rt:315:5
 list-ends-requires : tie.Need-list-ends-requires
 list-ends-requires c κs = search needs
 
--- src/quick.rt:311:1
+-- src/quick.rt:312:1
 returns : tie.Need-returns
 returns c = reach-list (c .before .before .before .args .sheet .now) (c .before .before .before .args .text .now) (lineFrom (c .before .before .before .args .base) (c .before .before .before .args .len)) (nodeForm (c .before .before .before .args .sheet .now) (c .before .before .before .args .text .now) (lineFrom (c .before .before .before .args .base) (c .before .before .before .args .len)) 64) Stmt _ _ (c .list-ends .ensures)
 
