@@ -31,7 +31,7 @@ noteSize = 4
 abbrev pub entrySize : ℕ
 entrySize = 4
 
--- where a record's range and its arguments stand, and an entry's start, length and extra
+-- where a record's range and its arguments stand, and an entry's extra
 abbrev pub rangeWordAt : ℕ
 rangeWordAt = 1
 
