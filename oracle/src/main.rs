@@ -25,6 +25,7 @@ mod crowded;
 mod damage;
 mod form;
 mod generate;
+mod labels;
 mod library;
 mod maker;
 mod pairs;
@@ -85,6 +86,7 @@ const USAGE: &str = "\
 oracle listing < INPUT           document 01's listing of one program input
 oracle generate --seed S --count N [--valid|--damaged|--mixed] [--small]
 oracle crowded --seed S          two sheets with more names than a tree holds
+oracle labels --seed S --count N sheets crowded with labelled lines
 oracle pairs                     document 01's 'Pairs to run'
 oracle replay-list               the fixed list of inputs
 oracle answers < FILE            each answer whole
@@ -96,10 +98,10 @@ oracle compare --seed S --count N [--valid|--damaged|--mixed] [--small]
     [--jobs J] [--out FILE]      the proved library against the Rust
 oracle lengths, as compare       the same at every length of each buffer
 oracle recheck < FILE            the same on given inputs
-oracle bench                     times of the Rust and of the library
+oracle bench [FAMILY..]          times of the Rust and of the library
 oracle selftest                  the tests
-generate, crowded, pairs and replay-list write the replay format, which
-answers, form, text, check and recheck read.";
+generate, crowded, labels, pairs and replay-list write the replay format,
+which answers, form, text, check and recheck read.";
 
 fn main() -> ExitCode {
   let args: Vec<String> = std::env::args().skip(1).collect();
@@ -142,6 +144,14 @@ fn command_line(command: &str, options: &[&str]) -> io::Result<bool> {
         replay::write_input(&mut out, &input)?;
       }
     }
+    "labels" => {
+      let Options { seed, count, .. } = parse(options)?;
+      let mut progress = Progress::new(command, count);
+      for index in 0..count {
+        replay::write_input(&mut out, &labels::labels(seed, index))?;
+        progress.step();
+      }
+    }
     "pairs" => {
       for pair in pairs::pairs() {
         replay::write_input(&mut out, &pair.input)?;
@@ -166,7 +176,7 @@ fn command_line(command: &str, options: &[&str]) -> io::Result<bool> {
       each(command, |input| counts.check(input).map_err(io::Error::other))?;
       writeln!(out, "{counts}")?;
     }
-    "bench" => return bench::bench(&mut out),
+    "bench" => return bench::bench(&mut out, options),
     "compare" => return compare::compare(&mut out, &parse(options)?),
     "recheck" => {
       let inputs = Inputs(BufReader::new(io::stdin().lock()));

@@ -41,4 +41,10 @@ impl Rng {
   pub fn pick<'a, T>(&mut self, items: &'a [T]) -> &'a T {
     &items[self.below(items.len())]
   }
+
+  pub fn shuffle<T>(&mut self, items: &mut [T]) {
+    for i in (1..items.len()).rev() {
+      items.swap(i, self.below(i + 1));
+    }
+  }
 }

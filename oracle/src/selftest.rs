@@ -6,6 +6,7 @@ use crate::check;
 use crate::compare;
 use crate::form;
 use crate::generate::{self, Sort};
+use crate::labels;
 use crate::maker::{decimal, value};
 use crate::pairs;
 use crate::progress::Progress;
@@ -24,7 +25,7 @@ include!(concat!(env!("OUT_DIR"), "/texts.rs"));
 
 pub fn selftest(out: &mut impl Write) -> io::Result<bool> {
   type Test = fn() -> Result<String, String>;
-  let tests: [(&str, Test); 17] = [
+  let tests: [(&str, Test); 18] = [
     ("tables follow the enums of stmt.rs and expr.rs", tables),
     ("the worked example", worked_example),
     ("the pairs to run", pairs_to_run),
@@ -40,6 +41,7 @@ pub fn selftest(out: &mut impl Write) -> io::Result<bool> {
     ("the fullest sheets of 2,048 words", fullest),
     ("buffers just long enough and one short", buffers),
     ("generated inputs, with CodeGen beside", generated),
+    ("sheets crowded with labels", crowded_labels),
     ("the replay list covers all", replay_list),
     ("the comparison tells every change", compare::tells_changes),
   ];
@@ -497,6 +499,71 @@ fn generated() -> Result<String, String> {
     seen.take(&input)?;
   }
   Ok(format!(", 2000 inputs, {} accepted", seen.accepted))
+}
+
+/// Each sort of labels twice; notes of all three classes on labels come up.
+fn crowded_labels() -> Result<String, String> {
+  let count = 2 * labels::SORTS.len() as u64;
+  let mut seen = Seen::default();
+  for index in 0..count {
+    let input = labels::labels(16, index);
+    seen.take(&input)?;
+    let sheet = |error| format!("sheet {index}: {error}");
+    labels_found(&input).map_err(sheet)?;
+  }
+  for class in 1..=3 {
+    let notes = seen.classes.get(&class);
+    notes.ok_or_else(|| format!("no note of class {class}"))?;
+  }
+  Ok(format!(", {count} sheets, {} accepted", seen.accepted))
+}
+
+/// "A target is the address of the last line with that label, an omitted one
+/// label 0. A DATA index is the first DATA of that label." For sheets without
+/// ELSE, whose jumps are all to labels.
+fn labels_found(input: &Input) -> Result<(), String> {
+  let prog = sheet::decode(&input.words).ok_or("no tree")?;
+  let records = run::compile(&input.words, &input.units).recorder.records;
+  let (mut addrs, mut firsts) = (BTreeMap::new(), BTreeMap::new());
+  let (mut jumps, mut restores, mut data) = (vec![], vec![], 0);
+  for (at, line) in prog.lines.iter().enumerate() {
+    let before = data;
+    for stmt in line.stmt_arena.all() {
+      match &stmt.kind {
+        StmtKind::Data(items) => data += items.len().get() as u32,
+        StmtKind::GoTo { label, .. } | StmtKind::GoSub(label) => {
+          jumps.push(label.as_ref().map_or(0, |(_, label)| label.0));
+        }
+        StmtKind::On { labels, .. } => {
+          let label = |label: &Option<Label>| label.map_or(0, |l| l.0);
+          jumps.extend(labels.iter().map(|(_, l)| label(l)));
+        }
+        StmtKind::Restore(label) => {
+          restores.push(label.as_ref().map(|(_, label)| label.0));
+        }
+        _ => {}
+      }
+    }
+    if let Some((_, label)) = &line.content.label {
+      let addr = records.partition_point(|record| record.line < at);
+      addrs.insert(label.0, addr as u32);
+      if data > before {
+        firsts.entry(label.0).or_insert(before);
+      }
+    }
+  }
+  let found = |calls: [u32; 2]| -> Vec<u32> {
+    let records = records.iter().filter(|r| calls.contains(&r.call));
+    records.map(|record| record.args[0]).collect()
+  };
+  let unknown = recorder::UNKNOWN;
+  let addr = |label| *addrs.get(label).unwrap_or(&unknown);
+  same(found([20, 21]), jumps.iter().map(addr).collect())?;
+  let first = |label: &Option<u16>| {
+    let first = label.as_ref().and_then(|label| firsts.get(label));
+    first.copied().unwrap_or(0)
+  };
+  same(found([31, 31]), restores.iter().map(first).collect())
 }
 
 fn replay_list() -> Result<String, String> {

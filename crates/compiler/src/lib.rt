@@ -111,7 +111,7 @@ pub fn compile(
 ) -> Answer
     ensures { λ x. ⌜ outcomeOf x (now (list .exit)) (now (notes .exit)) (now (book .exit)) (now (work .exit)) ≡ outcome (now (sheet .entry)) (now (text .entry)) (lengths (length (now (list .entry))) (length (now (notes .entry))) (length (now (book .entry))) (length (now (work .entry)))) ⌝ }
 {
-    let c = walk::check(sheet, text, work.len());
+    let c = acceptance::check(sheet, text, work.len());
     let refusal = sheet::form::refusal_number(c);
     if refusal != 0 {
         return refuse(

@@ -14,7 +14,7 @@ fn show(c: Checked) -> bool {
 fn answer(words: &[u32], units: &[u16], n: u32, u: u32, work: u32) -> bool {
     let a = feed::least(n, words.len());
     let b = feed::least(u, units.len());
-    show(walk::check(&words[..a], &units[..b], work as usize))
+    show(acceptance::check(&words[..a], &units[..b], work as usize))
 }
 
 fn one(words: &mut [u32], units: &mut [u16]) -> bool {

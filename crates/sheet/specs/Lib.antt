@@ -4,4 +4,3 @@ pub mod Parts
 pub mod Check
 pub mod Skip
 pub mod Tree
-pub mod Reach

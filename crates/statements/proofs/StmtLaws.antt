@@ -22,7 +22,7 @@ use Rattle.rules.specs.Stmt.{compileStmt, compileStmts, elseJump, endHere}
 use Rattle.nodes.specs.Compiled.{CompiledTyped, PayloadAt}
 use Rattle.expressions.specs.Body.{Body}
 use Rattle.expressions.proofs.ExprLaws.{Head}
-use Rattle.statements.specs.Shapes.{shapeBy}
+use Rattle.walk.specs.Shapes.{shapeBy}
 use Rattle.statements.specs.Stmt.{IfHead, IfBody, CompiledStmt, CompiledStmts}
 
 -- a number that is none of those from a to b is not between them

@@ -6,7 +6,7 @@ ghost use mathlib.Core.Path.{_≡_};
 ghost use Prim.Native.Nat.{_≤_, _<_};
 ghost use Rattle.recorder.specs.Mem.{mem};
 ghost use Rattle.expressions.specs.Body.{Body};
-ghost use Rattle.statements.specs.Shapes.{shapeBy};
+ghost use Rattle.walk.specs.Shapes.{shapeBy};
 
 fn rem_to_draw(
     sheet: &[u32],

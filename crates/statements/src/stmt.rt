@@ -127,7 +127,7 @@ pub fn compile_stmt(
         return Behind { st: s, at };
     }
     let k = recorder::word::payload_at(sheet, at);
-    let n = crate::shape::shape_of(k);
+    let n = walk::shape::shape_of(k);
     let p = recorder::word::behind(sheet, recorder::word::behind(sheet, at));
     if n == 16 {
         return compile_if(sheet, text, list, notes, book, st, base, p, left - 1, r);

@@ -1,10 +1,10 @@
 pub mod Steps
 pub mod Cycle
 pub mod Lines
-pub mod Reaches
 pub mod Skips
 pub mod Within
 pub mod LinesFit
 pub mod Accepted
 pub mod Depth
 pub mod Local
+pub mod Shapes

@@ -24,16 +24,16 @@ use Rattle.sheet.specs.Check.{hasSurrogate, isTooLong, formChecked, checked}
 use Rattle.sheet.proofs.Walks.{then-stop, then-go, pick-yes, pick-no, pick-behind, told, either-yes, either-no}
 
 -- a list of nodes is a list of pairs of a node and nothing
-then-behind : (w : Walk) → then w (λ p. Behind p) ≡ w
+pub then-behind : (w : Walk) → then w (λ p. Behind p) ≡ w
 then-behind (Behind p) = refl
 then-behind (Stops o) = refl
 
-then-same : (w : Walk) (f g : ℕ → Walk) → ((q : ℕ) → f q ≡ g q) → then w f ≡ then w g
+pub then-same : (w : Walk) (f g : ℕ → Walk) → ((q : ℕ) → f q ≡ g q) → then w f ≡ then w g
 then-same (Behind q) f g h = h q
 then-same (Stops o) f g h = refl
 
 module _ (s t : List ℕ) (line : Line) where
-  alone : (child : Sort → ℕ → Walk) (c : Sort) (p : ℕ) → pairForm s t line child (Node c) Nothing p ≡ child c p
+  pub alone : (child : Sort → ℕ → Walk) (c : Sort) (p : ℕ) → pairForm s t line child (Node c) Nothing p ≡ child c p
   unfolding pairForm itemForm
   alone child c p = then-behind (child c p)
 
