@@ -9,11 +9,11 @@ use Rattle.sheet.specs.declared.form.Item.the-variants.{Nothing}
 use Rattle.sheet.specs.Table.{stmt}
 use Rattle.sheet.specs.Form.{itemForm, pairForm, repeatForm, listForm, timesForm, fieldForm, nodeForm}
 use Rattle.sheet.proofs.Walks.{told}
-use Rattle.acceptance.specs.Reach.{lineFrom}
+use Rattle.accept_exprs.specs.Reach.{lineFrom}
 use Rattle.walk.proofs.Steps.{word-ends as word-step, range-ends as range-step, pair-ends as pair-step, list-ends as list-step, node-ends as node-step}
 use Rattle.walk.proofs.Cycle.{head-moves, repeat-step, repeat-end}
-use Rattle.acceptance.proofs.Reaches.{reach-end, reach-later, reach-stop, reach-then, reach-yes, reach-no, repeat-stops, head-stops, depth-stops, fseek-stops}
-use Rattle.acceptance.proofs.Fields.{one-stop, one-go, field-stop, field-go, field-last, reach-alone, stmt-own-stops, stmt-fields}
+use Rattle.accept_exprs.proofs.Reaches.{reach-end, reach-later, reach-stop, reach-then, reach-yes, reach-no, repeat-stops, head-stops, depth-stops, fseek-stops}
+use Rattle.accept_exprs.proofs.Fields.{one-stop, one-go, field-stop, field-go, field-last, reach-alone, stmt-own-stops, stmt-fields}
 use Prim.Native.Nat.{ℕ, _<_}
 use borrow.Fn.Kinds.{In}
 use borrow.Fn.PlainCycle.{Measures, is, falls, and}
@@ -26,11 +26,11 @@ use Rattle.acceptance.proofs.quick.+if_ends+stmt_ends+stmts_ends.Lts-st
 use Rattle.acceptance.proofs.quick.stmts_ends.Reads as stmts-ends
 use Rattle.acceptance.proofs.quick.stmts_ends.Kinds as stmts-ends-kinds
 use Rattle.acceptance.proofs.quick.+if_ends+stmt_ends+stmts_ends.Lts-stmts_ends as stmts-ends-lts
-use Rattle.acceptance.proofs.quick.expr_ends.Reads as expr-ends-reads
-use Rattle.acceptance.proofs.quick.head_ends.Reads as head-ends-reads
-use Rattle.acceptance.proofs.quick.plain_ends.Reads as plain-ends-reads
-use Rattle.acceptance.proofs.quick.range_ends.Reads as range-ends-reads
-use Rattle.acceptance.proofs.quick.word_ends.Reads as word-ends-reads
+use Rattle.accept_exprs.proofs.expr.expr_ends.Reads as expr-ends-reads
+use Rattle.accept_exprs.proofs.leaf.head_ends.Reads as head-ends-reads
+use Rattle.accept_fields.proofs.field.plain_ends.Reads as plain-ends-reads
+use Rattle.accept_exprs.proofs.leaf.range_ends.Reads as range-ends-reads
+use Rattle.accept_exprs.proofs.leaf.word_ends.Reads as word-ends-reads
 use Rattle.recorder.proofs.word.payload_at.Reads as payload-at-reads
 use Rattle.sheet.proofs.form.is_fseek.Reads as is-fseek-reads
 use Rattle.sheet.proofs.leaf.is_absent.Reads as is-absent-reads

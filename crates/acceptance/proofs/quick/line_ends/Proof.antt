@@ -1,17 +1,17 @@
 use native.Mathlib.Omega.{arith}
 use Rattle.sheet.specs.declared.form.Sort.the-variants.{Stmt}
 use Rattle.sheet.specs.Form.{nodeForm}
-use Rattle.acceptance.specs.Reach.{lineFrom}
+use Rattle.accept_exprs.specs.Reach.{lineFrom}
 use Rattle.walk.proofs.Within.{head-ends}
-use Rattle.acceptance.proofs.Reaches.{reach-leaf, reach-list, line-head-stops, label-stops, reach-line}
+use Rattle.accept_exprs.proofs.Reaches.{reach-leaf, reach-list, line-head-stops, label-stops, reach-line}
 use borrow.Author.Needs.{needs}
 use Rattle.acceptance.proofs.quick.line_ends.Statement.{statement}
 use Rattle.acceptance.proofs.quick.line_ends.Tie as tie
 use Rattle.acceptance.proofs.quick.line_ends.Reads as reads
 use Rattle.acceptance.proofs.quick.line_ends.Lts as lts
-use Rattle.acceptance.proofs.quick.ends.Reads as ends-reads
+use Rattle.accept_exprs.proofs.leaf.ends.Reads as ends-reads
 use Rattle.acceptance.proofs.quick.stmts_ends.Reads as stmts-ends-reads
-use Rattle.acceptance.proofs.quick.target_ends.Reads as target-ends-reads
+use Rattle.accept_exprs.proofs.leaf.target_ends.Reads as target-ends-reads
 use Rattle.recorder.proofs.word.payload_at.Reads as payload-at-reads
 use Rattle.walk.proofs.stmt.line_head.Reads as line-head-reads
 

@@ -5,12 +5,12 @@ use Prim.Native.Nat.{_≤_}
 use Rattle.sheet.specs.Form.{linesForm}
 use Rattle.walk.proofs.Lines.{line-fits, lines-step}
 use Rattle.walk.proofs.Within.{line-ends}
-use Rattle.acceptance.proofs.Reaches.{reach-later, lines-stops, reach-lines}
+use Rattle.accept_exprs.proofs.Reaches.{reach-later, lines-stops, reach-lines}
 use Rattle.acceptance.proofs.quick.lines_ends.Statement.{statement}
 use Rattle.acceptance.proofs.quick.lines_ends.Tie as tie
 use Rattle.acceptance.proofs.quick.lines_ends.Reads as reads
 use Rattle.acceptance.proofs.quick.lines_ends.Lts as lts
-use Rattle.acceptance.proofs.quick.ends.Reads as ends-reads
+use Rattle.accept_exprs.proofs.leaf.ends.Reads as ends-reads
 use Rattle.acceptance.proofs.quick.line_ends.Reads as line-ends-reads
 use Rattle.recorder.proofs.word.payload_at.Reads as payload-at-reads
 use Rattle.walk.proofs.stmt.end_form.Reads as end-form-reads

@@ -1,10 +1,10 @@
-use Rattle.acceptance.proofs.Reaches.{sheet-stops, reach-sheet}
+use Rattle.accept_exprs.proofs.Reaches.{sheet-stops, reach-sheet}
 use borrow.Author.Needs.{needs}
 use Rattle.acceptance.proofs.quick.sheet_ends.Statement.{statement}
 use Rattle.acceptance.proofs.quick.sheet_ends.Tie as tie
 use Rattle.acceptance.proofs.quick.sheet_ends.Reads as reads
 use Rattle.acceptance.proofs.quick.sheet_ends.Lts as lts
-use Rattle.acceptance.proofs.quick.ends.Reads as ends-reads
+use Rattle.accept_exprs.proofs.leaf.ends.Reads as ends-reads
 use Rattle.acceptance.proofs.quick.lines_ends.Reads as lines-ends-reads
 use Rattle.recorder.proofs.word.payload_at.Reads as payload-at-reads
 use Rattle.sheet.proofs.leaf.take_word.Reads as take-word-reads

@@ -1,0 +1,3 @@
+// The quick walk's lower half: leaves and expressions.
+pub mod expr;
+pub mod leaf;
