@@ -13,9 +13,9 @@ use native.Mathlib.Nat.{pow-le-pow-right, one-le-pow, pow-suc, div-mul-le-self}
 use native.Mathlib.Omega.{arith}
 use Rattle.recorder.specs.declared.codegen.St.{St}
 use Rattle.recorder.specs.Word.{pick, both, either, kindAt, wordOf}
-use Rattle.recorder.specs.Ideal.{Rec, noRange}
+use Rattle.recorder.specs.Ideal.{Rec}
 use Rattle.recorder.specs.Closing.{isWhile, isWend, isOne, isEnd, isNextOf, upTo, roundUp}
-use Rattle.recorder.specs.Mem.{putRec, putSt, noteList, noteSt, recOf, setB, atRec, whileList, whileTop, whilesFrom, topFrom, Passed, passed, openFrom, present, patchWhiles, unitOf, rewrite, wholeAt, delayList, delaysFrom, convertDelays, cleanUpAll, known, sigilOf, unlinkAt, unlinkFrom, unlinked}
+use Rattle.recorder.specs.Mem.{noteList, noteSt, recOf, setB, atRec, whileList, whileTop, Passed, passed, openFrom, unitOf, rewrite, wholeAt, known, sigilOf, unlinkAt, unlinkFrom, unlinked}
 use Rattle.recorder.proofs.Laws.{part-back}
 use Rattle.recorder.proofs.Bools.{never}
 
@@ -82,17 +82,6 @@ while-close l l′ top k c b f e g h i j o p =
     let u : ltb 0 top ≡ true = lt-ltb 0 top (omega arith) in
     (p ∙ rw (w, v, u), o ∙ rw (w, v, u))
 
-pub whiles-step : (l l′ L : List ℕ) (top top′ k left T : ℕ) → 0 < left → whilesFrom l top k left ≡ L → topFrom l top k left ≡ T → (l′ ≡ whileList l top k) × (top′ ≡ whileTop l top k)
-    → (whilesFrom l′ top′ (k + 1) (left - 1) ≡ L) × (topFrom l′ top′ (k + 1) (left - 1) ≡ T)
-unfolding whilesFrom topFrom
-whiles-step l l′ L top top′ k zero T h e f g = absurd (omega arith)
-whiles-step l l′ L top top′ k (suc left) T h e f g = (rw (sub-one, g .0, g .1) e, rw (sub-one, g .0, g .1) f)
-
-pub whiles-end : (l L : List ℕ) (top k left T : ℕ) → left ≤ 0 → whilesFrom l top k left ≡ L → topFrom l top k left ≡ T → (l ≡ L) × (top ≡ T)
-unfolding whilesFrom topFrom
-whiles-end l L top k zero T h e f = (e, f)
-whiles-end l L top k (suc left) T h e f = absurd (omega arith)
-
 -- the WHILEs that are open
 pub open-step : (l l′ n n′ : List ℕ) (s s′ : St) (t t′ left : ℕ) (P : Passed) → 0 < left → openFrom (passed l n s) t left ≡ P → (t ≡ 0 → ⊥) → t′ ≡ recOf l (t - 1) .b
     → (n′ ≡ noteList n s (wordOf 13 (getD l (5 * (t - 1)) 0)) (getD l (5 * (t - 1) + 1) 0) 1) × (s′ ≡ noteSt n s) → l′ ≡ atRec (setB 4294967295) l (t - 1)
@@ -110,10 +99,6 @@ pub open-end : (l n : List ℕ) (s : St) (t left : ℕ) (P : Passed) → left �
 unfolding openFrom
 open-end l n s t zero P h e = e
 open-end l n s t (suc left) P h e = absurd (omega arith)
-
-pub whiles-done : (l l′ n : List ℕ) (s : St) (top k : ℕ) (P : Passed) → k ≡ present l s → (l′ ≡ whilesFrom l 0 0 k) × (top ≡ topFrom l 0 0 k) → P ≡ openFrom (passed l′ n s) top k → P ≡ patchWhiles l n s
-unfolding patchWhiles
-whiles-done l l′ n s top k P e f g = g ∙ rw (f .0, f .1, e)
 
 -- powers of two
 pub pow-small : (k : ℕ) → k ≤ 31 → (0 < 2 ^ k) × (2 ^ k ≤ 2147483648)
@@ -208,21 +193,6 @@ next-same f r c a b e g h i j =
         which : (c : Bool) → eqb (a - 1) b ≡ c → c ≡ eqb a (b + 1)
         which true y = let x = eqb-true (a - 1) b y in sym (eq-eqb a (b + 1) (omega arith))
         which false y = let x = eqb-false (a - 1) b y in sym (ne-eqb a (b + 1) (λ w. x (omega arith)))
-
-pub delays-step : (l l′ L : List ℕ) (k left : ℕ) → 0 < left → delaysFrom l k left ≡ L → l′ ≡ delayList l k → delaysFrom l′ (k + 1) (left - 1) ≡ L
-unfolding delaysFrom
-delays-step l l′ L k zero h e g = absurd (omega arith)
-delays-step l l′ L k (suc left) h e g = rw (sub-one, g) e
-
-pub delays-end : (l₀ l : List ℕ) (st : St) (k left n : ℕ) → n ≡ present l₀ st → left ≤ 0 → delaysFrom l k left ≡ delaysFrom l₀ 0 n → l ≡ convertDelays l₀ st
-unfolding delaysFrom convertDelays
-delays-end l₀ l st k zero n r h e = e ∙ rw r
-delays-end l₀ l st k (suc left) n r h e = absurd (omega arith)
-
-pub clean-done : (l l1 l2 l3 n n1 : List ℕ) (s s1 s3 : St) → passed l1 n1 s1 ≡ patchWhiles l n s → l2 ≡ convertDelays l1 s1 → (l3 ≡ putRec l2 s1 2 noRange 17 0 0) × (s3 ≡ putSt l2 s1)
-    → passed l3 n1 s3 ≡ cleanUpAll l n s
-unfolding cleanUpAll
-clean-done l l1 l2 l3 n n1 s s1 s3 e d o = let q = sym e in rw (o .0, o .1, d, q)
 
 pub one-yes : (r : Rec) (c a b : ℕ) → c ≡ r .call → c ≡ 3 → a ≡ r .a → a ≡ 129 → b ≡ r .b → eqb b 2147483648 ≡ isOne r
 one-yes r c a b e f g h i = rw (eq-eqb (r .call) 3 (sym e ∙ f), eq-eqb (r .a) 129 (sym g ∙ h)) (ap (λ (z : ℕ). eqb z 2147483648) i)

@@ -1,3 +1,4 @@
 pub mod MarkLaws
 pub mod MarkSearch
 pub mod ClosingLaws
+pub mod OnePass

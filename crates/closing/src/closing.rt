@@ -23,7 +23,7 @@ ghost use lib.ListN.{getD};
 ghost use Rattle.recorder.specs.Word.{wordOf};
 ghost use Rattle.recorder.specs.Closing.{isWend, isZero, isOne, isStart, isEnd, isFor, isNextOf, roundUp};
 ghost use Rattle.recorder.specs.Layout.{recSize, rangeWordAt, mostRecords};
-ghost use Rattle.recorder.specs.Mem.{noteList, noteSt, recOf, setB, atRec, whileList, whileTop, whilesFrom, topFrom, passed, openFrom, patchWhiles, setHead, rewrite, unitOf, wholeAt, delayAt, steppedAt, delayedAt, steppedDelayedAt, delayList, convertDelays, cleanUpAll, sigilOf, unlinkAt, unlinked};
+ghost use Rattle.recorder.specs.Mem.{noteList, noteSt, recOf, setB, atRec, whileList, whileTop, whilesFrom, topFrom, passed, openFrom, setHead, rewrite, unitOf, wholeAt, delayAt, steppedAt, delayedAt, steppedDelayedAt, delayList, delaysFrom, cleanUpAll, sigilOf, unlinkAt, unlinked};
 
 // A number: m × 2^(e−160), zero at e 0.
 pub struct Number {
@@ -101,20 +101,6 @@ fn while_step(list: &mut [u32], top: u32, k: u16) -> u32
     link
 }
 
-fn link_whiles(list: &mut [u32], n: u16) -> u32
-    ensures { λ r. ⌜ (now (list .exit) ≡ whilesFrom (now (list .entry)) 0 0 n) × (r ≡ topFrom (now (list .entry)) 0 0 n) ⌝ }
-{
-    let mut top: u32 = 0;
-    let mut k: u16 = 0;
-    let mut left = n;
-    while 0 < left {
-        top = while_step(list, top, k);
-        k += 1;
-        left -= 1;
-    }
-    top
-}
-
 // The note on a WHILE without WEND: its record's line and range.
 fn open_note(list: &[u32], notes: &mut [u32], st: St, w: u32) -> St
     ensures { λ r. ⌜ (now (notes .exit) ≡ noteList (now (notes .entry)) st (wordOf 13 (getD (now (list .entry)) (recSize * w) 0)) (getD (now (list .entry)) (recSize * w + rangeWordAt) 0) 1) × (r ≡ noteSt (now (notes .entry)) st) ⌝ }
@@ -124,6 +110,7 @@ fn open_note(list: &[u32], notes: &mut [u32], st: St, w: u32) -> St
     put_note(notes, st, h, word_at(list, from + RANGE), 1)
 }
 
+// The end of patch_while_instr of the Rust: a note on each WHILE left open, the last first.
 fn open_whiles(list: &mut [u32], notes: &mut [u32], st: St, top: u32, n: u16) -> St
     ensures { λ r. ⌜ passed (now (list .exit)) (now (notes .exit)) r ≡ openFrom (passed (now (list .entry)) (now (notes .entry)) st) top n ⌝ }
 {
@@ -141,14 +128,6 @@ fn open_whiles(list: &mut [u32], notes: &mut [u32], st: St, top: u32, n: u16) ->
         left -= 1;
     }
     s
-}
-
-pub fn patch_while_instr(list: &mut [u32], notes: &mut [u32], st: St) -> St
-    ensures { λ r. ⌜ passed (now (list .exit)) (now (notes .exit)) r ≡ patchWhiles (now (list .entry)) (now (notes .entry)) st ⌝ }
-{
-    let n = present_of(list.len(), st.records);
-    let top = link_whiles(list, n);
-    open_whiles(list, notes, st, top, n)
 }
 
 // A record anew but for its line and its range.
@@ -363,24 +342,43 @@ fn delay_step(list: &mut [u32], at: u16)
     }
 }
 
-pub fn convert_for_loop_to_sleep(list: &mut [u32], st: St)
-    ensures { λ r. ⌜ now (list .exit) ≡ convertDelays (now (list .entry)) st ⌝ }
+// The record at k of the one pass: a WHILE, perhaps a WEND, or a number, where a delay may start; any other is passed over.
+fn loop_step(list: &mut [u32], top: u32, k: u16) -> u32
+    ensures { λ r. ⌜ (now (list .exit) ≡ whileList (delayList (now (list .entry)) k) top k) × (r ≡ whileTop (delayList (now (list .entry)) k) top k) ⌝ }
 {
+    match call_of(list, k as u32) {
+        3 => {
+            delay_step(list, k);
+            top
+        }
+        2 | 25 => while_step(list, top, k),
+        _ => top,
+    }
+}
+
+// patch_while_instr, but for the WHILEs left open, and convert_for_loop_to_sleep of the Rust: the two passes made as one. Returns
+// the last WHILE left open, plus 1.
+fn close_loops(list: &mut [u32], n: u16) -> u32
+    ensures { λ r. ⌜ (now (list .exit) ≡ delaysFrom (whilesFrom (now (list .entry)) 0 0 n) 0 n) × (r ≡ topFrom (now (list .entry)) 0 0 n) ⌝ }
+{
+    let mut top: u32 = 0;
     let mut k: u16 = 0;
-    let mut left = present_of(list.len(), st.records);
+    let mut left = n;
     while 0 < left {
-        delay_step(list, k);
+        top = loop_step(list, top, k);
         k += 1;
         left -= 1;
     }
+    top
 }
 
 // WHILEs, delays, and End on the last line.
 pub fn clean_up(list: &mut [u32], notes: &mut [u32], st: St) -> St
     ensures { λ r. ⌜ passed (now (list .exit)) (now (notes .exit)) r ≡ cleanUpAll (now (list .entry)) (now (notes .entry)) st ⌝ }
 {
-    let s = patch_while_instr(list, notes, st);
-    convert_for_loop_to_sleep(list, s);
+    let n = present_of(list.len(), st.records);
+    let top = close_loops(list, n);
+    let s = open_whiles(list, notes, st, top, n);
     put(list, s, 2, Range { start: 0, end: 0 }, 17, 0, 0)
 }
 
