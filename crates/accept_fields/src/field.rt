@@ -1,4 +1,5 @@
-// The fields of each shape of statement, read by code of its own; the table of the form is the definition that it follows.
+// The fields of statements, by a function for each shape that has more than one; the table of the form is the definition that
+// they follow.
 use crate::list::Listed;
 use crate::list::list_ends;
 use crate::list::some_ends;
@@ -21,7 +22,7 @@ ghost use Rattle.sheet.specs.Table.{expr, optional₂, shapeFields};
 ghost use Rattle.walk.specs.Shapes.{shapeBy};
 ghost use Rattle.accept_exprs.specs.Reach.{ReachesItem, ReachesField, ReachesFields};
 
-// The fields of each shape but IF, one function for each that has more than one.
+// GET, PUT, POKE, FPUTC: two expressions.
 fn two_ends(sheet: &&[u32], text: &&[u16], base: usize, len: usize, left: usize, at: usize) -> usize
     ensures { λ r. ⌜ ReachesFields (now (now (sheet .entry))) (now (now (text .entry))) base len left (shapeFields Op2) at r ⌝ }
 {
@@ -32,6 +33,7 @@ fn two_ends(sheet: &&[u32], text: &&[u16], base: usize, len: usize, left: usize,
     expr_ends(sheet, text, base, len, left, p)
 }
 
+// FREAD, FWRITE: three.
 fn three_ends(
     sheet: &&[u32],
     text: &&[u16],
@@ -49,6 +51,7 @@ fn three_ends(
     two_ends(sheet, text, base, len, left, p)
 }
 
+// LET, LSET, RSET: a place and its value.
 fn set_ends(sheet: &&[u32], text: &&[u16], base: usize, len: usize, left: usize, at: usize) -> usize
     ensures { λ r. ⌜ ReachesFields (now (now (sheet .entry))) (now (now (text .entry))) base len left (shapeFields Set) at r ⌝ }
 {
@@ -59,6 +62,7 @@ fn set_ends(sheet: &&[u32], text: &&[u16], base: usize, len: usize, left: usize,
     expr_ends(sheet, text, base, len, left, p)
 }
 
+// SWAP: two places.
 fn swap_ends(
     sheet: &&[u32],
     text: &&[u16],
@@ -76,6 +80,7 @@ fn swap_ends(
     place_ends(sheet, text, base, len, left, p)
 }
 
+// DEF: its name, its parameter, its body.
 fn def_ends(sheet: &&[u32], text: &&[u16], base: usize, len: usize, left: usize, at: usize) -> usize
     ensures { λ r. ⌜ ReachesFields (now (now (sheet .entry))) (now (now (text .entry))) base len left (shapeFields Def) at r ⌝ }
 {
@@ -90,6 +95,7 @@ fn def_ends(sheet: &&[u32], text: &&[u16], base: usize, len: usize, left: usize,
     expr_ends(sheet, text, base, len, left, q)
 }
 
+// FIELD: a file, then lengths and variables.
 fn field_ends(
     sheet: &&[u32],
     text: &&[u16],
@@ -107,6 +113,7 @@ fn field_ends(
     some_ends(sheet, text, base, len, left, Listed::Spec, p)
 }
 
+// FOR: its counter, start and end, and a step or none.
 fn for_ends(sheet: &&[u32], text: &&[u16], base: usize, len: usize, left: usize, at: usize) -> usize
     ensures { λ r. ⌜ ReachesFields (now (now (sheet .entry))) (now (now (text .entry))) base len left (shapeFields For) at r ⌝ }
 {
@@ -125,6 +132,7 @@ fn for_ends(sheet: &&[u32], text: &&[u16], base: usize, len: usize, left: usize,
     optional_expr_ends(sheet, text, base, len, left, e)
 }
 
+// GOTO: whether the keyword is written, and its target.
 fn goto_ends(sheet: &[u32], base: usize, len: usize, at: usize) -> usize
     ensures { λ r. ⌜ ((t : List ℕ) (left : ℕ) → ReachesFields (now (sheet .entry)) t base len left (shapeFields GoTo) at r) ⌝ }
 {
@@ -160,6 +168,7 @@ fn source_ends(
     expr_ends(sheet, text, base, len, left, p)
 }
 
+// INPUT: where it reads from, and its places.
 fn input_ends(
     sheet: &&[u32],
     text: &&[u16],
@@ -177,6 +186,7 @@ fn input_ends(
     some_ends(sheet, text, base, len, left, Listed::InputPlace, p)
 }
 
+// LOCATE: a row and a column, each of which may be absent.
 fn locate_ends(
     sheet: &&[u32],
     text: &&[u16],
@@ -194,6 +204,7 @@ fn locate_ends(
     optional_expr_ends(sheet, text, base, len, left, p)
 }
 
+// ON: its condition, its targets, and whether they are GOSUBs.
 fn on_ends(sheet: &&[u32], text: &&[u16], base: usize, len: usize, left: usize, at: usize) -> usize
     ensures { λ r. ⌜ ReachesFields (now (now (sheet .entry))) (now (now (text .entry))) base len left (shapeFields On) at r ⌝ }
 {
@@ -222,6 +233,7 @@ fn len_ends(sheet: &&[u32], text: &&[u16], base: usize, len: usize, left: usize,
     expr_ends(sheet, text, base, len, left, p)
 }
 
+// OPEN: name, mode, file number, LEN.
 fn open_ends(
     sheet: &&[u32],
     text: &&[u16],
@@ -247,6 +259,7 @@ fn open_ends(
     len_ends(sheet, text, base, len, left, e)
 }
 
+// WRITE: a file or none, and its values.
 fn write_ends(
     sheet: &&[u32],
     text: &&[u16],
@@ -264,7 +277,7 @@ fn write_ends(
     some_ends(sheet, text, base, len, left, Listed::Value, p)
 }
 
-// The fields of a statement of a shape without statements.
+// The fields of a statement whose shape has the number n, and is not IF.
 pub fn plain_ends(
     sheet: &&[u32],
     text: &&[u16],

@@ -31,7 +31,7 @@ pub enum Listed {
 }
 
 // PRINT's element: an expression, or the range of a comma or a semicolon.
-pub fn element_ends(
+fn element_ends(
     sheet: &&[u32],
     text: &&[u16],
     base: usize,
