@@ -3,13 +3,12 @@ use mathlib.Core.Path.{_≡_, refl, sym, ap, _∙_}
 use mathlib.Core.List.{List}
 use Prim.Native.Nat.{ℕ, zero, suc, _+_, _*_, _-_, _/_, _%_, _≤_, _<_, min}
 use lib.ListN.{length, getD, set, take}
-use borrow.Author.Tests.{eq-eqb, ne-eqb}
 use native.Mathlib.Numerals.{sub-one}
 use native.Mathlib.Nat.{mod-lt}
 use native.Mathlib.Omega.{arith}
 use Rattle.closing.specs.declared.marks.Target.the-variants.{At, Nowhere}
 use Rattle.closing.specs.declared.marks.Start.the-variants.{From, NoData}
-use Rattle.recorder.specs.Ideal.{Search, missing, found}
+use Rattle.recorder.specs.Ideal.{Search, found}
 use Rattle.recorder.specs.Marks.{Mark, addrOf, datumFrom, dataOf}
 use Rattle.closing.specs.MarkWords.{targetFound, startFound}
 use Rattle.closing.specs.MarksIn.{MarksIn}

@@ -14,7 +14,7 @@ use Rattle.recorder.proofs.word.behind.Reads as behind-reads
 use Rattle.recorder.proofs.word.payload_at.Reads as payload-at-reads
 
 abbrev Inv-loop : tie.InvT-loop
-Inv-loop sheet text list₀ notes₀ book₀ work₀ count at c₀ line₀ list notes book work c line =     (length list ≡ length list₀) × (length notes ≡ length notes₀) × (length book ≡ length book₀) × (length work ≡ length work₀)
+Inv-loop sheet text list₀ notes₀ book₀ work₀ count at c₀ line₀ list notes book work c line = (length list ≡ length list₀) × (length notes ≡ length notes₀) × (length book ≡ length book₀) × (length work ≡ length work₀)
     × Going sheet text count line c (mem list₀ notes₀ book₀ (c₀ .st)) (mem list notes book (c .st)) work₀ work
 
 abbrev μ-loop : tie.MeasureT-loop
@@ -46,8 +46,13 @@ loop-less c = omega arith
 
 -- src/line.rt:115:5
 loop-again : tie.Need-loop-again Inv-loop μ-loop
-loop-again c = ((c .before .before .before .before .before .before .before .before .compile-line .kept .1 .1 .0) ∙ (c .before .before .before .before .before .before .before .before .before .before .before .before .before .before .loop .inv .0), (c .before .before .before .before .before .before .before .before .compile-line .kept .1 .1 .1 .0) ∙ (c .before .before .before .before .before .before .before .before .before .before .before .before .before .before .loop .inv .1), (c .before .before .before .before .before .before .before .before .compile-line .kept .1 .1 .1 .1 .0) ∙ (c .before .before .before .before .before .before .before .before .before .before .before .before .before .before .loop .inv .2), (c .before .before .before .before .before .before .before .before .compile-line .kept .1 .1 .1 .1 .1 .0) ∙ (c .before .before .before .before .before .before .before .before .before .before .before .before .before .before .loop .inv .3),
-    going-on _ _ _ _ _ _ _ _ _ _ _ _ (c .before .before .before .before .before .before .before .before .before .before .before .before .before .loop-test .taken) (c .before .before .before .before .before .before .before .before .compile-line .ensures) (c .before .before .before .before .before .before .before .before .compile-line .kept .1 .1 .1 .1 .1 .0) (c .before .before .before .before .before .before .before .before .before .before .before .before .before .before .loop .inv .4))
+loop-again c = (
+  (c .before .before .before .before .before .before .before .before .compile-line .kept .1 .1 .0) ∙ (c .before .before .before .before .before .before .before .before .before .before .before .before .before .before .loop .inv .0),
+  (c .before .before .before .before .before .before .before .before .compile-line .kept .1 .1 .1 .0) ∙ (c .before .before .before .before .before .before .before .before .before .before .before .before .before .before .loop .inv .1),
+  (c .before .before .before .before .before .before .before .before .compile-line .kept .1 .1 .1 .1 .0) ∙ (c .before .before .before .before .before .before .before .before .before .before .before .before .before .before .loop .inv .2),
+  (c .before .before .before .before .before .before .before .before .compile-line .kept .1 .1 .1 .1 .1 .0) ∙ (c .before .before .before .before .before .before .before .before .before .before .before .before .before .before .loop .inv .3),
+  going-on _ _ _ _ _ _ _ _ _ _ _ _ (c .before .before .before .before .before .before .before .before .before .before .before .before .before .loop-test .taken) (c .before .before .before .before .before .before .before .before .compile-line .ensures) (c .before .before .before .before .before .before .before .before .compile-line .kept .1 .1 .1 .1 .1 .0) (c .before .before .before .before .before .before .before .before .before .before .before .before .before .before .loop .inv .4),
+)
 
 -- src/line.rt:94:1
 same-length : tie.Need-same-length Inv-loop μ-loop

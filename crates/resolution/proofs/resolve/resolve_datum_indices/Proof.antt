@@ -17,7 +17,7 @@ use Rattle.closing.proofs.closing.call_of.Reads as call-of-reads
 use Rattle.resolution.proofs.resolve.settle_restore.Reads as settle-restore-reads
 
 abbrev Inv-loop : tie.InvT-loop
-Inv-loop list₀ notes₀ work n chains count s₀ k₀ list notes s k =     (length list ≡ length list₀) × (length notes ≡ length notes₀)
+Inv-loop list₀ notes₀ work n chains count s₀ k₀ list notes s k = (length list ≡ length list₀) × (length notes ≡ length notes₀)
     × ((t b : List ℕ) (ms : List Mark) → Chained work n chains n ms → resolveDatumIndices (memR t) ms k (count - k) (mem list notes b s) ≡ resolveDatumIndices (memR t) ms 0 count (mem list₀ notes₀ b s₀))
 
 abbrev μ-loop : tie.MeasureT-loop

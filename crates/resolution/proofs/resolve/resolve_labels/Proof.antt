@@ -18,7 +18,7 @@ use Rattle.resolution.proofs.resolve.is_jump.Reads as is-jump-reads
 use Rattle.resolution.proofs.resolve.settle_jump.Reads as settle-jump-reads
 
 abbrev Inv-loop : tie.InvT-loop
-Inv-loop list₀ notes₀ work n chains count s₀ k₀ list notes s k =     (length list ≡ length list₀) × (length notes ≡ length notes₀)
+Inv-loop list₀ notes₀ work n chains count s₀ k₀ list notes s k = (length list ≡ length list₀) × (length notes ≡ length notes₀)
     × ((t b : List ℕ) (ms : List Mark) → Chained work n chains n ms → resolveLabels (memR t) ms k (count - k) (mem list notes b s) ≡ resolveLabels (memR t) ms 0 count (mem list₀ notes₀ b s₀))
 
 abbrev μ-loop : tie.MeasureT-loop
