@@ -1,145 +1,115 @@
 -- The laws of the searches for labels, a law for each way out.
-use mathlib.Core.Path.{_≡_, refl, ap, _∙_}
+use mathlib.Core.Path.{_≡_, refl, sym, ap, _∙_}
 use mathlib.Core.List.{List}
-use mathlib.Core.Bool.{Bool, true, false}
-use Prim.Native.Nat.{ℕ, zero, suc, _+_, _*_, _-_, _≤_, _<_}
-use lib.Dec.{ltb}
-use lib.ListN.{getD}
-use borrow.Author.Tests.{lt-ltb, le-ltb, eq-eqb, ne-eqb}
-use native.Mathlib.Decide.{decLt}
+use Prim.Native.Nat.{ℕ, zero, suc, _+_, _*_, _-_, _/_, _%_, _≤_, _<_, min}
+use lib.ListN.{length, getD, set, take}
 use native.Mathlib.Numerals.{sub-one}
+use native.Mathlib.Nat.{mod-lt}
 use native.Mathlib.Omega.{arith}
 use Rattle.closing.specs.declared.marks.Target.the-variants.{At, Nowhere}
 use Rattle.closing.specs.declared.marks.Start.the-variants.{From, NoData}
-use Rattle.recorder.specs.Word.{pick}
 use Rattle.recorder.specs.Ideal.{Search, found}
-use Rattle.recorder.specs.Marks.{datumFrom}
-use Rattle.closing.specs.MarkWords.{targetFound, startFound, markLabel, middle, seekLabel, markDatum, lastOf, firstDatumOf, sortedTarget, sortedStart}
+use Rattle.recorder.specs.Marks.{Mark, addrOf, datumFrom, dataOf}
+use Rattle.closing.specs.MarkWords.{targetFound, startFound}
+use Rattle.closing.specs.MarksIn.{MarksIn}
+use Rattle.closing.specs.Chains.{lineOf, labelOf, lastIn, Chained, earlierDatum}
+use Rattle.closing.proofs.MarkSearch.{chain-start, chain-step, last-within, or-missing, dataOr, addrs, addrs-skip, data-skip, Seeking, seek-head, seek-link, word-label, word-link, addr-here, addr-past, data-past}
 
--- one by one from the end
-pub last-step : (w : List ℕ) (l k u z : ℕ) (o : Search) → 0 < k → lastOf w l k ≡ o → z ≡ k - 1 → u ≡ getD w (3 * z) 0 → (u ≡ l → ⊥) → lastOf w l z ≡ o
-unfolding lastOf
-last-step w l zero u z o h e y i j = absurd (omega arith)
-last-step w l (suc k) u z o h e y i j =
-    let s : z ≡ k = omega arith in
-    rw s (rw (ne-eqb (markLabel w k) l (rw (i, s) at j)) at e)
+-- the chains: none yet, one line more, all
+module _ (w : List ℕ) (n m : ℕ) (e : m ≡ min n (length w / 3)) where
+  lines-all : (ms : List Mark) → MarksIn w n ms → m ≡ n
+  lines-all ms k = omega (arith, e, k .room)
 
-pub last-stop : (w : List ℕ) (l k u v z n m : ℕ) → n ≡ m → 0 < k → lastOf w l k ≡ lastOf w l n → z ≡ k - 1 → u ≡ getD w (3 * z) 0 → u ≡ l → v ≡ getD w (3 * z + 1) 0
-    → At (record { 0 = v }) ≡ targetFound (lastOf w l m)
-unfolding lastOf
-last-stop w l zero u v z n m r h e y i j g = absurd (omega arith)
-last-stop w l (suc k) u v z n m r h e y i j g =
-    let s : z ≡ k = omega arith in
-    let d : found v ≡ lastOf w l n = rw (g, s) (rw (eq-eqb (markLabel w k) l (rw (i, s) at j)) at e) in
-    ap targetFound (d ∙ ap (λ (x : ℕ). lastOf w l x) r)
+  pub index-start : (h f : ℕ) (ms : List Mark) → h ≡ min f (length w - 3 * m) → (h ≡ 0 → ⊥) → MarksIn w n ms → Chained w m h 0 ms
+  index-start h f ms i d k = rw (lines-all ms k) (chain-start w n h ms (omega arith) (omega (arith, i, lines-all ms k, k .room)) k)
 
-pub last-end : (w : List ℕ) (l k n m : ℕ) → n ≡ m → k ≤ 0 → lastOf w l k ≡ lastOf w l n → Nowhere ≡ targetFound (lastOf w l m)
-unfolding lastOf
-last-end w l zero n m r h e = ap targetFound (e ∙ ap (λ (x : ℕ). lastOf w l x) r)
-last-end w l (suc k) n m r h e = absurd (omega arith)
+  pub index-step : (w′ : List ℕ) (h j : ℕ) (ms : List Mark) → j < m → MarksIn w n ms → Chained w′ m h j ms
+      → Chained (set (set w′ (3 * j) (getD w′ (3 * j) 0 % 65536 + 65536 * (getD w′ (3 * m + getD w′ (3 * j) 0 % 65536 % h) 0 % 65536))) (3 * m + getD w′ (3 * j) 0 % 65536 % h) (j % 65536 + 1)) m h (j + 1) ms
+  index-step w′ h j ms i k c = chain-step w′ m h j ms c i (omega (arith, lines-all ms k, k .few)) _ _ refl refl
 
--- the first datum
-pub datum-step : (w : List ℕ) (l k left d : ℕ) (o : Search) → 0 < left → firstDatumOf w l k left ≡ o → d ≡ markDatum w l k → d ≡ 0 → firstDatumOf w l (k + 1) (left - 1) ≡ o
-unfolding firstDatumOf
-datum-step w l k zero d o h e i j = absurd (omega arith)
-datum-step w l k (suc left) d o h e i j = rw sub-one (rw (le-ltb 0 (markDatum w l k) (omega arith)) at e)
+  pub index-none : (h f : ℕ) (ms : List Mark) → h ≡ min f (length w - 3 * m) → h ≡ 0 → 0 < f → MarksIn w n ms → Chained w n h n ms
+  index-none h f ms i d p k = absurd (omega (arith, lines-all ms k, k .room))
 
-datum-found : (d : ℕ) → 0 < d → found (d - 1) ≡ datumFrom d
-datum-found zero h = absurd (omega arith)
-datum-found (suc d) h = let e : suc d - 1 ≡ d = omega arith in ap found e
+  pub index-end : (w′ : List ℕ) (h j : ℕ) (ms : List Mark) → j ≤ m → m ≤ j → MarksIn w n ms → Chained w′ m h j ms → Chained w′ n h n ms
+  index-end w′ h j ms a b k c =
+      let p : j ≡ n = omega (arith, lines-all ms k) in
+      rw (lines-all ms k, p) at c
 
-pub datum-stop : (w : List ℕ) (l k left d n m : ℕ) → n ≡ m → 0 < left → firstDatumOf w l k left ≡ firstDatumOf w l 0 n → d ≡ markDatum w l k → (d ≡ 0 → ⊥)
-    → From (record { 0 = d - 1 }) ≡ startFound (firstDatumOf w l 0 m)
-unfolding firstDatumOf
-datum-stop w l k zero d n m r h e i j = absurd (omega arith)
-datum-stop w l k (suc left) d n m r h e i j =
-    let p : 0 < d = omega arith in
-    let q : found (d - 1) ≡ firstDatumOf w l 0 n = datum-found d p ∙ ap datumFrom i ∙ rw (lt-ltb 0 (markDatum w l k) (rw i at p)) at e in
-    ap startFound (q ∙ ap (λ (x : ℕ). firstDatumOf w l 0 x) r)
+-- the head
+pub head-is : (w : List ℕ) (n m l h x : ℕ) (ms : List Mark) → m ≡ min n (length w / 3) → x ≡ getD w (3 * m + l % h) 0 → Chained w n h n ms → x ≡ lastIn h ms (l % h) n
+head-is w n m l h x ms e f c =
+    let i : m ≡ n = omega (arith, c .room) in
+    rw i at f ∙ c .heads (l % h) (mod-lt l (c .some))
 
-pub datum-end : (w : List ℕ) (l k left n m : ℕ) → n ≡ m → left ≤ 0 → firstDatumOf w l k left ≡ firstDatumOf w l 0 n → NoData ≡ startFound (firstDatumOf w l 0 m)
-unfolding firstDatumOf
-datum-end w l k zero n m r h e = ap startFound (e ∙ ap (λ (x : ℕ). firstDatumOf w l 0 x) r)
-datum-end w l k (suc left) n m r h e = absurd (omega arith)
+pub chain-place : (w : List ℕ) (n m l h : ℕ) → (h ≡ 0 → ⊥) → m ≡ min n (length w / 3) → h ≤ length w - 3 * m → 3 * m + l % h < length w
+chain-place w n m l h d e f = omega (arith, mod-lt l {m = h} (omega arith))
 
--- by halves: turns enough are enough
-pub seek-enough : (w : List ℕ) (l lo hi f g : ℕ) → hi - lo ≤ f → hi - lo ≤ g → seekLabel w l lo hi f ≡ seekLabel w l lo hi g
-unfolding seekLabel
-seek-enough w l lo hi zero zero h i = refl
-seek-enough w l lo hi zero (suc g) h i = rw (le-ltb lo hi (omega arith))
-seek-enough w l lo hi (suc f) zero h i = rw (le-ltb lo hi (omega arith))
-seek-enough w l lo hi (suc f) (suc g) h i =
-    go (decLt lo hi) (ltb (markLabel w (middle lo hi)) l)
-    (λ d. seek-enough w l (middle lo hi + 1) hi f g (omega arith) (omega arith)) (λ d. seek-enough w l lo (middle lo hi) f g (omega arith) (omega arith))
-  where
-    go : Dec (lo < hi) → (c : Bool)
-        → (lo < hi → seekLabel w l (middle lo hi + 1) hi f ≡ seekLabel w l (middle lo hi + 1) hi g) → (lo < hi → seekLabel w l lo (middle lo hi) f ≡ seekLabel w l lo (middle lo hi) g)
-        → pick (ltb lo hi) (pick c (seekLabel w l (middle lo hi + 1) hi f) (seekLabel w l lo (middle lo hi) f)) lo
-        ≡ pick (ltb lo hi) (pick c (seekLabel w l (middle lo hi + 1) hi g) (seekLabel w l lo (middle lo hi) g)) lo
-    go (yes d) true p q = rw (lt-ltb lo hi d, p d)
-    go (yes d) false p q = rw (lt-ltb lo hi d, q d)
-    go (no d) c p q = rw (le-ltb lo hi (omega arith))
+-- a line of the chain
+module _ (w : List ℕ) (n h : ℕ) (ms : List Mark) (c : Chained w n h n ms) (l p : ℕ) (i : 0 < p) where
+  before : p ≡ suc (p - 1)
+  before = omega arith
 
-seek-high : (w : List ℕ) (l lo hi f : ℕ) → lo < hi → getD w (3 * middle lo hi) 0 < l → hi - lo ≡ f → seekLabel w l (middle lo hi + 1) hi (f - 1) ≡ seekLabel w l lo hi f
-unfolding seekLabel
-seek-high w l lo hi zero h j e = absurd (omega arith)
-seek-high w l lo hi (suc f) h j e = rw (sub-one, lt-ltb lo hi h, lt-ltb (markLabel w (middle lo hi)) l j)
+  module _ (f : List Mark → Search) (o : Search) (s : Seeking f l h ms p o) where
+    inside : p - 1 < length ms
+    inside = omega (arith, s .within)
 
-seek-low : (w : List ℕ) (l lo hi f : ℕ) → lo < hi → l ≤ getD w (3 * middle lo hi) 0 → hi - lo ≡ f → seekLabel w l lo (middle lo hi) (f - 1) ≡ seekLabel w l lo hi f
-unfolding seekLabel
-seek-low w l lo hi zero h j e = absurd (omega arith)
-seek-low w l lo hi (suc f) h j e = rw (sub-one, lt-ltb lo hi h, le-ltb (markLabel w (middle lo hi)) l j)
+    link-is : (u : ℕ) → u ≡ getD w (3 * (p - 1)) 0 → u / 65536 ≡ lastIn h ms (labelOf ms (p - 1) % h) (p - 1)
+    link-is u e = rw e (word-link w n h ms c (p - 1) inside)
 
-seek-none : (w : List ℕ) (l lo hi f : ℕ) → f ≡ 0 → lo ≡ seekLabel w l lo hi f
-unfolding seekLabel
-seek-none w l lo hi zero e = refl
-seek-none w l lo hi (suc f) e = absurd (omega arith)
+    pub link-low : (u : ℕ) → u ≡ getD w (3 * (p - 1)) 0 → p ≤ u / 65536 → ⊥
+    link-low u e g = omega (arith, link-is u e, last-within h ms (labelOf ms (p - 1) % h) (p - 1))
 
-pub seek-up : (w : List ℕ) (l lo hi n u : ℕ) → lo < hi → seekLabel w l lo hi (hi - lo) ≡ seekLabel w l 0 n (n - 0) → u ≡ getD w (3 * middle lo hi) 0 → u < l
-    → seekLabel w l (middle lo hi + 1) hi (hi - (middle lo hi + 1)) ≡ seekLabel w l 0 n (n - 0)
-seek-up w l lo hi n u h e i j = seek-enough w l (middle lo hi + 1) hi (hi - (middle lo hi + 1)) (hi - lo - 1) (omega arith) (omega arith) ∙ go ∙ e
-  where
-    go : seekLabel w l (middle lo hi + 1) hi (hi - lo - 1) ≡ seekLabel w l lo hi (hi - lo)
-    go = seek-high w l lo hi (hi - lo) h (rw i at j) (omega arith)
+  -- its label is another
+  pub target-link : (u : ℕ) → u ≡ getD w (3 * (p - 1)) 0 → (u % 65536 ≡ l → ⊥) → Seeking (addrs l) l h ms p (addrOf ms l) → Seeking (addrs l) l h ms (u / 65536) (addrOf ms l)
+  target-link u e d s =
+      let y : u % 65536 ≡ labelOf ms (p - 1) = rw e (word-label w n h ms c (p - 1) (inside (addrs l) _ s)) in
+      seek-link (addrs l) l h ms (addrs-skip l) (addrs l) p (p - 1) (u / 65536) (addrOf ms l) s before (link-is (addrs l) _ s u e)
+      (addr-past ms l (p - 1) (inside (addrs l) _ s) (λ z. d (y ∙ z)))
 
-pub seek-down : (w : List ℕ) (l lo hi n u : ℕ) → lo < hi → seekLabel w l lo hi (hi - lo) ≡ seekLabel w l 0 n (n - 0) → u ≡ getD w (3 * middle lo hi) 0 → l ≤ u
-    → seekLabel w l lo (middle lo hi) (middle lo hi - lo) ≡ seekLabel w l 0 n (n - 0)
-seek-down w l lo hi n u h e i j = seek-enough w l lo (middle lo hi) (middle lo hi - lo) (hi - lo - 1) (omega arith) (omega arith) ∙ go ∙ e
-  where
-    go : seekLabel w l lo (middle lo hi) (hi - lo - 1) ≡ seekLabel w l lo hi (hi - lo)
-    go = seek-low w l lo hi (hi - lo) h (rw i at j) (omega arith)
+  pub target-here : (u v : ℕ) → u ≡ getD w (3 * (p - 1)) 0 → u % 65536 ≡ l → v ≡ getD w (3 * (p - 1) + 1) 0 → Seeking (addrs l) l h ms p (addrOf ms l)
+      → At (record { 0 = v }) ≡ targetFound (addrOf ms l)
+  target-here u v e g a s =
+      let y : labelOf ms (p - 1) ≡ l = sym (word-label w n h ms c (p - 1) (inside (addrs l) _ s)) ∙ ap (λ (z : ℕ). z % 65536) (sym e) ∙ g in
+      let z : v ≡ lineOf ms (p - 1) .addr = a ∙ c .addr (p - 1) (omega (arith, c .count, inside (addrs l) _ s)) in
+      let q : found (lineOf ms (p - 1) .addr) ≡ addrOf ms l = sym (addr-here ms l (p - 1) (inside (addrs l) _ s) y) ∙ ap (λ (x : ℕ). addrs l (take x ms)) (sym before) ∙ s .rest in
+      ap (λ (x : ℕ). targetFound (found x)) z ∙ ap targetFound q
 
-pub seek-end : (w : List ℕ) (l lo hi n m : ℕ) → n ≡ m → hi ≤ lo → seekLabel w l lo hi (hi - lo) ≡ seekLabel w l 0 n (n - 0) → lo ≡ seekLabel w l 0 m m
-seek-end w l lo hi n m r h e = let z : hi - lo ≡ 0 = omega arith in let y : n - 0 ≡ n = omega arith in
-    seek-none w l lo hi (hi - lo) z ∙ e ∙ ap (λ (x : ℕ). seekLabel w l 0 n x) y ∙ ap (λ (x : ℕ). seekLabel w l 0 x x) r
+  pub target-low : (u : ℕ) → u ≡ getD w (3 * (p - 1)) 0 → p ≤ u / 65536 → Seeking (addrs l) l h ms p (addrOf ms l) → Nowhere ≡ targetFound (addrOf ms l)
+  target-low u e g s = absurd (link-low (addrs l) _ s u e g)
 
--- the ways out of the searches by halves
-pub target-beyond : (w : List ℕ) (l n p m : ℕ) → p ≡ seekLabel w l 0 n n → m ≡ n → m ≤ p → Nowhere ≡ targetFound (sortedTarget w l n)
-unfolding sortedTarget
-target-beyond w l n p m e i h = rw (le-ltb (seekLabel w l 0 n n) n (omega arith))
+  -- its datum
+  pub datum-link : (u d d′ : ℕ) → d′ ≡ earlierDatum w l (p - 1) d → u ≡ getD w (3 * (p - 1)) 0 → Seeking (dataOr l d) l h ms p (dataOf ms l) → Seeking (dataOr l d′) l h ms (u / 65536) (dataOf ms l)
+  unfolding earlierDatum
+  datum-link u d d′ e g s =
+      let i = inside (dataOr l d) _ s in
+      let y = c .first (p - 1) (omega (arith, c .count, i)) in
+      let z = rw (word-label w n h ms c (p - 1) i, y) at e in
+      seek-link (dataOr l d′) l h ms (data-skip l d′) (dataOr l d) p (p - 1) (u / 65536) (dataOf ms l) s before (link-is (dataOr l d) _ s u g)
+      (ap (λ (x : ℕ). dataOr l x (take (p - 1) ms)) z ∙ data-past ms l (p - 1) d i)
 
-pub target-other : (w : List ℕ) (l n p m u : ℕ) → p ≡ seekLabel w l 0 n n → m ≡ n → p < m → u ≡ getD w (3 * p) 0 → (u ≡ l → ⊥) → Nowhere ≡ targetFound (sortedTarget w l n)
-unfolding sortedTarget
-target-other w l n p m u e i h g j = rw (lt-ltb (seekLabel w l 0 n n) n (omega arith), ne-eqb (markLabel w (seekLabel w l 0 n n)) l (rw (g, e) at j))
+  pub datum-low : (u d : ℕ) → u ≡ getD w (3 * (p - 1)) 0 → p ≤ u / 65536 → Seeking (dataOr l d) l h ms p (dataOf ms l) → NoData ≡ startFound (dataOf ms l)
+  datum-low u d e g s = absurd (link-low (dataOr l d) _ s u e g)
 
-pub target-here : (w : List ℕ) (l n p m u v : ℕ) → p ≡ seekLabel w l 0 n n → m ≡ n → p < m → u ≡ getD w (3 * p) 0 → u ≡ l → v ≡ getD w (3 * p + 1) 0
-    → At (record { 0 = v }) ≡ targetFound (sortedTarget w l n)
-unfolding sortedTarget
-target-here w l n p m u v e i h g j k = rw (lt-ltb (seekLabel w l 0 n n) n (omega arith), eq-eqb (markLabel w (seekLabel w l 0 n n)) l (rw (g, e) at j)) (rw (k, e))
+-- the start of a chain
+pub target-start : (w : List ℕ) (n h l p : ℕ) (ms : List Mark) → Chained w n h n ms → p ≡ lastIn h ms (l % h) n → Seeking (addrs l) l h ms p (addrOf ms l)
+target-start w n h l p ms c e = seek-head (addrs l) l h ms (addrs-skip l) p n (addrOf ms l) (c .count) e refl
 
-pub start-beyond : (w : List ℕ) (l n p m : ℕ) → p ≡ seekLabel w l 0 n n → m ≡ n → m ≤ p → NoData ≡ startFound (sortedStart w l n)
-unfolding sortedStart
-start-beyond w l n p m e i h = rw (le-ltb (seekLabel w l 0 n n) n (omega arith))
+pub target-none : (h l p : ℕ) (ms : List Mark) → p ≤ 0 → Seeking (addrs l) l h ms p (addrOf ms l) → Nowhere ≡ targetFound (addrOf ms l)
+unfolding addrOf
+target-none h l zero ms i s = ap targetFound (s .rest)
+target-none h l (suc p) ms i s = absurd (omega arith)
 
-pub start-none : (w : List ℕ) (l n p m d : ℕ) → p ≡ seekLabel w l 0 n n → m ≡ n → p < m → d ≡ markDatum w l p → d ≡ 0 → NoData ≡ startFound (sortedStart w l n)
-unfolding sortedStart
-start-none w l n p m d e i h g j =
-    let z : markDatum w l (seekLabel w l 0 n n) ≡ 0 = rw (← e, ← g) j in
-    rw (lt-ltb (seekLabel w l 0 n n) n (omega arith), z)
+pub datum-start : (w : List ℕ) (n h l p : ℕ) (ms : List Mark) → Chained w n h n ms → p ≡ lastIn h ms (l % h) n → Seeking (dataOr l 0) l h ms p (dataOf ms l)
+datum-start w n h l p ms c e = seek-head (dataOr l 0) l h ms (data-skip l 0) p n (dataOf ms l) (c .count) e (or-missing (dataOf ms l))
 
-pub start-here : (w : List ℕ) (l n p m d : ℕ) → p ≡ seekLabel w l 0 n n → m ≡ n → p < m → d ≡ markDatum w l p → (d ≡ 0 → ⊥) → From (record { 0 = d - 1 }) ≡ startFound (sortedStart w l n)
-unfolding sortedStart
-start-here w l n p m d e i h g j =
-    let y : d ≡ markDatum w l (seekLabel w l 0 n n) = rw (← e) g in
-    let q : found (d - 1) ≡ datumFrom (markDatum w l (seekLabel w l 0 n n)) = datum-found d (omega arith) ∙ ap datumFrom y in
-    rw (lt-ltb (seekLabel w l 0 n n) n (omega arith)) (ap startFound q)
+pub datum-end : (h l p d : ℕ) (ms : List Mark) → p ≤ 0 → Seeking (dataOr l d) l h ms p (dataOf ms l) → datumFrom d ≡ dataOf ms l
+unfolding dataOf
+datum-end h l zero d ms i s = s .rest
+datum-end h l (suc p) d ms i s = absurd (omega arith)
+
+pub datum-none : (h l p d : ℕ) (ms : List Mark) → p ≤ 0 → d ≡ 0 → Seeking (dataOr l d) l h ms p (dataOf ms l) → NoData ≡ startFound (dataOf ms l)
+datum-none h l p d ms i e s = rw (← datum-end h l p d ms i s, e)
+
+pub datum-found : (h l p d : ℕ) (ms : List Mark) → p ≤ 0 → (d ≡ 0 → ⊥) → Seeking (dataOr l d) l h ms p (dataOf ms l) → From (record { 0 = d - 1 }) ≡ startFound (dataOf ms l)
+datum-found h l p zero ms i e s = absurd (e refl)
+datum-found h l p (suc d) ms i e s = rw (sub-one, ← datum-end h l p (suc d) ms i s)

@@ -1,2 +1,3 @@
 pub mod MarkWords
 pub mod MarksIn
+pub mod Chains

@@ -31,7 +31,7 @@ pub struct Number {
     pub m: u32,
 }
 
-fn call_of(list: &[u32], k: u32) -> u32
+pub fn call_of(list: &[u32], k: u32) -> u32
     ensures { λ r. ⌜ r ≡ recOf (now (list .entry)) k .call ⌝ }
 {
     kind_at(list, RECORD * (k as usize))

@@ -1,12 +1,18 @@
 // The labelled lines in lent work, three words each: label, address of the first record, first datum plus 1 (0 if there is none).
-// What compiler.rs keeps in its maps of labels and of DATA starts.
+// For closing up they are put into chains by their labels. What compiler.rs keeps in its maps of labels and of DATA starts.
 use recorder::codegen::least;
 use recorder::label::Addr;
 use recorder::label::DatumIndex;
 use recorder::label::Label;
 use recorder::word::word_at;
 ghost use mathlib.Core.Path.{_≡_};
-ghost use Rattle.closing.specs.MarkWords.{markList, markCount, markedLines, targetFound, startFound, seekLabel, lastOf, markDatum, firstDatumOf, sortedTarget, sortedStart, findLabel, findDatum};
+ghost use mathlib.Core.List.{List};
+ghost use Prim.Native.Nat.{_%_};
+ghost use lib.ListN.{length};
+ghost use Rattle.recorder.specs.Marks.{Mark, addrOf, dataOf};
+ghost use Rattle.closing.specs.MarkWords.{markList, markCount, markedLines, targetFound, startFound};
+ghost use Rattle.closing.specs.MarksIn.{MarksIn};
+ghost use Rattle.closing.specs.Chains.{lastIn, Chained, chainCount, earlierDatum};
 
 // A target: the address of a line, or the label is nowhere.
 pub enum Target {
@@ -37,112 +43,98 @@ pub fn put_mark(work: &mut [u32], n: usize, label: Label, addr: Addr, first: u32
     }
 }
 
-// Where labels rise: the first line whose label is not below this one.
-fn seek_label(work: &[u32], n: usize, label: u32) -> usize
-    ensures { λ r. ⌜ r ≡ seekLabel (now (work .entry)) label 0 (markedLines (now (work .entry)) n) (markedLines (now (work .entry)) n) ⌝ }
+// Every line becomes the head of its chain, in order, and keeps the one that was, as a link above its label. The heads stand in
+// the words that the lines leave free. Returns how many chains there are.
+pub fn index_lines(work: &mut [u32], n: usize) -> usize
+    ensures { λ r. ⌜ (r ≡ chainCount (markedLines (now (work .entry)) n) (length (now (work .entry)))) × ((ms : List Mark) → MarksIn (now (work .entry)) n ms → Chained (now (work .exit)) n r n ms) ⌝ }
 {
-    let mut lo: usize = 0;
-    let mut hi = least(n, work.len() / 3);
-    while lo < hi {
-        let mid = lo + (hi - lo) / 2;
-        if word_at(work, 3 * mid) < label {
-            lo = mid + 1;
-        } else {
-            hi = mid;
-        }
+    let lines = least(n, work.len() / 3);
+    let from = 3 * lines;
+    let chains = least(lines / 15 * 30 + 31, work.len() - from);
+    if chains == 0 {
+        return chains;
     }
-    lo
+    let mut k: usize = 0;
+    while k < lines {
+        let at = 3 * k;
+        let label = work[at] % 65536;
+        let head = from + (label as usize) % chains;
+        let link = work[head] % 65536;
+        work[at] = label + 65536 * link;
+        work[head] = (k % 65536) as u32 + 1;
+        k += 1;
+    }
+    chains
 }
 
-// "A target is the address of the last line with that label": from the end.
-fn last_of(work: &[u32], n: usize, label: u32) -> Target
-    ensures { λ r. ⌜ r ≡ targetFound (lastOf (now (work .entry)) label (markedLines (now (work .entry)) n)) ⌝ }
+// The last line of a label's chain, plus 1, 0 if there is none.
+fn head_of(work: &[u32], n: usize, label: u32, chains: usize) -> u32
+    ensures { λ r. ⌜ ((ms : List Mark) → Chained (now (work .entry)) n chains n ms → r ≡ lastIn chains ms (label % chains) n) ⌝ }
 {
-    let mut k = least(n, work.len() / 3);
-    while 0 < k {
-        k -= 1;
-        if word_at(work, 3 * k) == label {
-            return Target::At(Addr(word_at(work, 3 * k + 1)));
+    let from = 3 * least(n, work.len() / 3);
+    if chains == 0 {
+        return 0;
+    }
+    if work.len() - from < chains {
+        return 0;
+    }
+    word_at(work, from + (label as usize) % chains)
+}
+
+// "A target is the address of the last line with that label": a chain goes from its last line back.
+pub fn find_label(work: &[u32], n: usize, label: Label, chains: usize) -> Target
+    ensures { λ r. ⌜ ((ms : List Mark) → Chained (now (work .entry)) n chains n ms → r ≡ targetFound (addrOf ms (label .0))) ⌝ }
+{
+    let l = label.0 as u32;
+    let mut p = head_of(work, n, l, chains);
+    while 0 < p {
+        let at = 3 * ((p - 1) as usize);
+        let w = word_at(work, at);
+        if w % 65536 == l {
+            return Target::At(Addr(word_at(work, at + 1)));
         }
+        let link = w / 65536;
+        if p <= link {
+            return Target::Nowhere;
+        }
+        p = link;
     }
     Target::Nowhere
 }
 
-fn sorted_target(work: &[u32], n: usize, label: u32) -> Target
-    ensures { λ r. ⌜ r ≡ targetFound (sortedTarget (now (work .entry)) label (markedLines (now (work .entry)) n)) ⌝ }
+// The first datum plus 1 of line k where it has one and that label, else d.
+fn earlier_datum(work: &[u32], k: u32, label: u32, d: u32) -> u32
+    ensures { λ r. ⌜ r ≡ earlierDatum (now (work .entry)) label k d ⌝ }
 {
-    let p = seek_label(work, n, label);
-    if least(n, work.len() / 3) <= p {
-        return Target::Nowhere;
+    let at = 3 * (k as usize);
+    if word_at(work, at) % 65536 != label {
+        return d;
     }
-    if word_at(work, 3 * p) != label {
-        return Target::Nowhere;
+    let first = word_at(work, at + 2);
+    if first == 0 {
+        return d;
     }
-    Target::At(Addr(word_at(work, 3 * p + 1)))
+    first
 }
 
-pub fn find_label(work: &[u32], n: usize, label: Label, rising: bool) -> Target
-    ensures { λ r. ⌜ r ≡ targetFound (findLabel (now (work .entry)) n (label .0) rising) ⌝ }
+// "A DATA index is the first DATA of that label": what the whole chain has earliest.
+pub fn find_datum(work: &[u32], n: usize, label: Label, chains: usize) -> Start
+    ensures { λ r. ⌜ ((ms : List Mark) → Chained (now (work .entry)) n chains n ms → r ≡ startFound (dataOf ms (label .0))) ⌝ }
 {
     let l = label.0 as u32;
-    if rising {
-        sorted_target(work, n, l)
-    } else {
-        last_of(work, n, l)
-    }
-}
-
-// The first datum plus 1 of a line, 0 if it has none or another label.
-fn mark_datum(work: &[u32], k: usize, label: u32) -> u32
-    ensures { λ r. ⌜ r ≡ markDatum (now (work .entry)) label k ⌝ }
-{
-    if work.len() / 3 <= k {
-        return 0;
-    }
-    if word_at(work, 3 * k) != label {
-        return 0;
-    }
-    word_at(work, 3 * k + 2)
-}
-
-// "A DATA index is the first DATA of that label": from the start.
-fn first_datum_of(work: &[u32], n: usize, label: u32) -> Start
-    ensures { λ r. ⌜ r ≡ startFound (firstDatumOf (now (work .entry)) label 0 (markedLines (now (work .entry)) n)) ⌝ }
-{
-    let mut k: usize = 0;
-    let mut left = least(n, work.len() / 3);
-    while 0 < left {
-        left -= 1;
-        let d = mark_datum(work, k, label);
-        if d != 0 {
-            return Start::From(DatumIndex(d - 1));
+    let mut d: u32 = 0;
+    let mut p = head_of(work, n, l, chains);
+    while 0 < p {
+        let k = p - 1;
+        d = earlier_datum(work, k, l, d);
+        let link = word_at(work, 3 * (k as usize)) / 65536;
+        if p <= link {
+            return Start::NoData;
         }
-        k += 1;
+        p = link;
     }
-    Start::NoData
-}
-
-fn sorted_start(work: &[u32], n: usize, label: u32) -> Start
-    ensures { λ r. ⌜ r ≡ startFound (sortedStart (now (work .entry)) label (markedLines (now (work .entry)) n)) ⌝ }
-{
-    let p = seek_label(work, n, label);
-    if least(n, work.len() / 3) <= p {
-        return Start::NoData;
-    }
-    let d = mark_datum(work, p, label);
     if d == 0 {
         return Start::NoData;
     }
     Start::From(DatumIndex(d - 1))
-}
-
-pub fn find_datum(work: &[u32], n: usize, label: Label, rising: bool) -> Start
-    ensures { λ r. ⌜ r ≡ startFound (findDatum (now (work .entry)) n (label .0) rising) ⌝ }
-{
-    let l = label.0 as u32;
-    if rising {
-        sorted_start(work, n, l)
-    } else {
-        first_datum_of(work, n, l)
-    }
 }

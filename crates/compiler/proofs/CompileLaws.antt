@@ -1,6 +1,6 @@
 -- compile: one law for each way out.
 use mathlib.Core.Path.{_≡_, refl, sym, ap, _∙_}
-use mathlib.Core.Bool.{Bool, true, false}
+use mathlib.Core.Bool.{true, false}
 use mathlib.Core.List.{List}
 use Prim.Native.Nat.{ℕ, _*_, _≤_, _<_}
 use native.Mathlib.Omega.{arith}
@@ -13,7 +13,7 @@ use Rattle.sheet.specs.declared.form.Checked.{Checked}
 use Rattle.sheet.specs.declared.form.Checked.the-variants.{Accepted, TooLong, Surrogate, WorkTooShort, Offends}
 use Rattle.sheet.specs.declared.form.Offence.the-variants.{BadWord, TooDeep, BadLength, BadRange, Fseek}
 use Rattle.sheet.specs.Check.{checked, refusalNumber, refusalPlace}
-use Rattle.walk.proofs.LinesFit.{lines-fit}
+use Rattle.walk.proofs.LinesFit.{lines-fit, lines-few}
 use Rattle.closing.specs.MarksIn.{MarksIn}
 use Rattle.program.specs.Line.{Programmed}
 use Rattle.rules.specs.Program.{Lines, closeUp}
@@ -53,8 +53,11 @@ number-none (Offends (Fseek p)) e = absurd (omega arith)
 good : (s t : List ℕ) (work : ℕ) (c : Checked) (k : ℕ) → c ≡ checked s t work → k ≡ refusalNumber c → k ≡ 0 → checked s t work ≡ Accepted
 good s t work c k hc hk d = sym hc ∙ number-none c (sym hk ∙ d)
 
-pub lines-room : (s t : List ℕ) (work work1 : ℕ) (c : Checked) (k : ℕ) → c ≡ checked s t work → k ≡ refusalNumber c → k ≡ 0 → work1 ≡ work → 3 * payloadAt s 0 ≤ work1
+pub lines-room : (s t : List ℕ) (work work1 : ℕ) (c : Checked) (k : ℕ) → c ≡ checked s t work → k ≡ refusalNumber c → k ≡ 0 → work1 ≡ work → 3 * payloadAt s 0 < work1
 lines-room s t work work1 c k hc hk d h = omega (arith, h, lines-fit s t work (good s t work c k hc hk d))
+
+pub few-lines : (s t : List ℕ) (work : ℕ) (c : Checked) (k : ℕ) → c ≡ checked s t work → k ≡ refusalNumber c → k ≡ 0 → payloadAt s 0 < 65536
+few-lines s t work c k hc hk d = lines-few s t work (good s t work c k hc hk d)
 
 pub accepted-is : (s t : List ℕ) (L : Lengths) (c : Checked) (k : ℕ) (o : Outcome) → c ≡ checked s t (L .work) → k ≡ refusalNumber c → k ≡ 0
     → o ≡ sized (finished s t) L → o ≡ outcome s t L
@@ -96,40 +99,41 @@ zeros l n b st e hl hn hb =
     ap (λ (x : List ℕ). mem x n b st) hl ∙ ap (λ (x : List ℕ). mem (replicate (length l) 0) x b st) hn
     ∙ ap (λ (x : List ℕ). mem (replicate (length l) 0) (replicate (length n) 0) x st) hb ∙ ap (λ (x : St). mem (replicate (length l) 0) (replicate (length n) 0) (replicate (length b) 0) x) e
 
-pub record FromZeros (s t : List ℕ) (L : Lengths) (m₁ : Mem) (w₁ : List ℕ) (k : ℕ) (rising : Bool) : Type 0 where
+pub record FromZeros (s t : List ℕ) (L : Lengths) (m₁ : Mem) (w₁ : List ℕ) (k : ℕ) : Type 0 where
   pub state : m₁ ≡ memLines s t L .state
-  pub marks : MarksIn w₁ k rising (memLines s t L .marks)
+  pub marks : MarksIn w₁ k (memLines s t L .marks)
 
-pub from-zeros : (s t l n b w : List ℕ) (st : St) (m₁ : Mem) (w₁ : List ℕ) (k : ℕ) (rising : Bool) → st ≡ nothing → l ≡ replicate (length l) 0 → n ≡ replicate (length n) 0 → b ≡ replicate (length b) 0
-    → Programmed s t (mem l n b st) m₁ w w₁ k rising → w ≡ replicate (length w) 0 → 3 * payloadAt s 0 ≤ length w → FromZeros s t (lengths (length l) (length n) (length b) (length w)) m₁ w₁ k rising
-from-zeros s t l n b w st m₁ w₁ k rising e hl hn hb p hw hs =
-    let q : Programmed s t (mem (replicate (length l) 0) (replicate (length n) 0) (replicate (length b) 0) nothing) m₁ w w₁ k rising = rw (zeros l n b st e hl hn hb) at p in
-    record { state = q .state; marks = q .marks hw hs }
+pub from-zeros : (s t l n b w : List ℕ) (st : St) (m₁ : Mem) (w₁ : List ℕ) (k : ℕ) → st ≡ nothing → l ≡ replicate (length l) 0 → n ≡ replicate (length n) 0 → b ≡ replicate (length b) 0
+    → Programmed s t (mem l n b st) m₁ w w₁ k → w ≡ replicate (length w) 0 → 3 * payloadAt s 0 < length w → payloadAt s 0 < 65536
+    → FromZeros s t (lengths (length l) (length n) (length b) (length w)) m₁ w₁ k
+from-zeros s t l n b w st m₁ w₁ k e hl hn hb p hw hs hf =
+    let q : Programmed s t (mem (replicate (length l) 0) (replicate (length n) 0) (replicate (length b) 0) nothing) m₁ w w₁ k = rw (zeros l n b st e hl hn hb) at p in
+    record { state = q .state; marks = q .marks hw hs hf }
 
 -- the three ways out of compile_accepted; i to h are the lengths of list, notes, book and work on the way
-pub whole-full : (s t l n b w : List ℕ) (i j k h : ℕ) (m₁ : Mem) (w₁ : List ℕ) (c : ℕ) (rising : Bool) (o : Outcome)
-    → i ≡ length l → j ≡ length n → k ≡ length b → h ≡ length w → FromZeros s t (lengths (length l) (length n) (length b) (length w)) m₁ w₁ c rising → m₁ .st .lfull ≡ true
+pub whole-full : (s t l n b w : List ℕ) (i j k h : ℕ) (m₁ : Mem) (w₁ : List ℕ) (c : ℕ) (o : Outcome)
+    → i ≡ length l → j ≡ length n → k ≡ length b → h ≡ length w → FromZeros s t (lengths (length l) (length n) (length b) (length w)) m₁ w₁ c → m₁ .st .lfull ≡ true
     → o ≡ refused 9 0 (lengths i j k h) → o ≡ sized (finished s t) (lengths (length l) (length n) (length b) (length w))
-whole-full s t l n b w i j k h m₁ w₁ c rising o hl hn hb hw x f e =
+whole-full s t l n b w i j k h m₁ w₁ c o hl hn hb hw x f e =
     let L = lengths (length l) (length n) (length b) (length w) in
     list-full L (memLines s t L .state) (closeUp (memR t) (memLines s t L)) o (rw (x .state) at f)
     (e ∙ ap (λ (y : Lengths). refused 9 0 y) (same-lengths l n b w i j k h hl hn hb hw)) ∙ held-outcome s t L
 
-pub whole-no-room : (s t l n b w : List ℕ) (i j k h : ℕ) (m₁ : Mem) (w₁ : List ℕ) (c : ℕ) (rising : Bool) (r : ℕ) (o : Outcome)
-    → i ≡ length l → j ≡ length n → k ≡ length b → h ≡ length w → FromZeros s t (lengths (length l) (length n) (length b) (length w)) m₁ w₁ c rising → m₁ .st .lfull ≡ false
+pub whole-no-room : (s t l n b w : List ℕ) (i j k h : ℕ) (m₁ : Mem) (w₁ : List ℕ) (c r : ℕ) (o : Outcome)
+    → i ≡ length l → j ≡ length n → k ≡ length b → h ≡ length w → FromZeros s t (lengths (length l) (length n) (length b) (length w)) m₁ w₁ c → m₁ .st .lfull ≡ false
     → r ≡ mostRecords i → r ≤ m₁ .st .records → o ≡ refused 9 0 (lengths i j k h) → o ≡ sized (finished s t) (lengths (length l) (length n) (length b) (length w))
-whole-no-room s t l n b w i j k h m₁ w₁ c rising r o hl hn hb hw x f hr g e =
+whole-no-room s t l n b w i j k h m₁ w₁ c r o hl hn hb hw x f hr g e =
     let L = lengths (length l) (length n) (length b) (length w) in
     let y : mostRecords (length l) ≤ m₁ .st .records = rw (hr, hl) at g in
     no-room L (memLines s t L .state) (closeUp (memR t) (memLines s t L)) o (rw (x .state) at f) (rw (x .state) at y)
     (e ∙ ap (λ (z : Lengths). refused 9 0 z) (same-lengths l n b w i j k h hl hn hb hw)) ∙ held-outcome s t L
 
-pub whole-sized : (s t l n b w l1 n1 b1 w1 l2 n2 b2 : List ℕ) (i h i2 j2 k2 : ℕ) (m₁ : Mem) (c : ℕ) (rising : Bool) (r : ℕ) (st st2 : St) (o : Outcome)
+pub whole-sized : (s t l n b w l1 n1 b1 w1 l2 n2 b2 : List ℕ) (i h i2 j2 k2 : ℕ) (m₁ : Mem) (c r : ℕ) (st st2 : St) (o : Outcome)
     → i ≡ length l → h ≡ length w → i2 ≡ length l → j2 ≡ length n → k2 ≡ length b
-    → m₁ ≡ mem l1 n1 b1 st → FromZeros s t (lengths (length l) (length n) (length b) (length w)) m₁ w1 c rising → m₁ .st .lfull ≡ false → r ≡ mostRecords i → m₁ .st .records < r
-    → ((t : List ℕ) (c′ : Lines Mem) → c′ .state ≡ mem l1 n1 b1 st → MarksIn w1 c rising (c′ .marks) → mem l2 n2 b2 st2 ≡ closeUp (memR t) c′)
+    → m₁ ≡ mem l1 n1 b1 st → FromZeros s t (lengths (length l) (length n) (length b) (length w)) m₁ w1 c → m₁ .st .lfull ≡ false → r ≡ mostRecords i → m₁ .st .records < r
+    → ((t : List ℕ) (c′ : Lines Mem) → c′ .state ≡ mem l1 n1 b1 st → MarksIn w1 c (c′ .marks) → mem l2 n2 b2 st2 ≡ closeUp (memR t) c′)
     → o ≡ memSized (lengths i2 j2 k2 h) (mem l2 n2 b2 st2) → o ≡ sized (finished s t) (lengths (length l) (length n) (length b) (length w))
-whole-sized s t l n b w l1 n1 b1 w1 l2 n2 b2 i h i2 j2 k2 m₁ c rising r st st2 o hl hw hl2 hn2 hb2 hm x f hr g close e =
+whole-sized s t l n b w l1 n1 b1 w1 l2 n2 b2 i h i2 j2 k2 m₁ c r st st2 o hl hw hl2 hn2 hb2 hm x f hr g close e =
     let L = lengths (length l) (length n) (length b) (length w) in
     let y : m₁ .st .records < mostRecords (length l) = rw (hr, hl) at g in
     let z : mem l2 n2 b2 st2 ≡ closeUp (memR t) (memLines s t L) = close t (memLines s t L) (sym (x .state) ∙ hm) (x .marks) in

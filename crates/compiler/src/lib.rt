@@ -1,7 +1,7 @@
 // The compiler of plot forms: a sheet and its text, lent to be read; list, notes, book and work, lent to be written.
 use recorder::codegen::St;
 ghost use mathlib.Core.Path.{_≡_};
-ghost use Prim.Native.Nat.{_*_, _≤_};
+ghost use Prim.Native.Nat.{_*_, _<_};
 ghost use lib.ListN.{length, replicate};
 ghost use Rattle.recorder.specs.Word.{payloadAt};
 ghost use Rattle.recorder.specs.Mem.{mem};
@@ -68,7 +68,7 @@ fn sized_up(
     }
 }
 
-// A sheet whose form is good, with zeros lent and three words of work for each line.
+// A sheet whose form is good, with zeros lent, and three words of work for each line and one more.
 fn compile_accepted(
     sheet: &[u32],
     text: &[u16],
@@ -77,7 +77,7 @@ fn compile_accepted(
     book: &mut [u32],
     work: &mut [u32],
 ) -> Answer
-    ensures { λ x. ⌜ (now (list .entry) ≡ replicate (length (now (list .entry))) 0 → now (notes .entry) ≡ replicate (length (now (notes .entry))) 0 → now (book .entry) ≡ replicate (length (now (book .entry))) 0 → now (work .entry) ≡ replicate (length (now (work .entry))) 0 → 3 * payloadAt (now (sheet .entry)) 0 ≤ length (now (work .entry)) → outcomeOf x (now (list .exit)) (now (notes .exit)) (now (book .exit)) (now (work .exit)) ≡ sized (finished (now (sheet .entry)) (now (text .entry))) (lengths (length (now (list .entry))) (length (now (notes .entry))) (length (now (book .entry))) (length (now (work .entry))))) ⌝ }
+    ensures { λ x. ⌜ (now (list .entry) ≡ replicate (length (now (list .entry))) 0 → now (notes .entry) ≡ replicate (length (now (notes .entry))) 0 → now (book .entry) ≡ replicate (length (now (book .entry))) 0 → now (work .entry) ≡ replicate (length (now (work .entry))) 0 → 3 * payloadAt (now (sheet .entry)) 0 < length (now (work .entry)) → payloadAt (now (sheet .entry)) 0 < 65536 → outcomeOf x (now (list .exit)) (now (notes .exit)) (now (book .exit)) (now (work .exit)) ≡ sized (finished (now (sheet .entry)) (now (text .entry))) (lengths (length (now (list .entry))) (length (now (notes .entry))) (length (now (book .entry))) (length (now (work .entry))))) ⌝ }
 {
     let p = program::line::compile_prog(
         sheet,
@@ -95,7 +95,7 @@ fn compile_accepted(
     if recorder::codegen::most_records(list.len()) <= ps.records {
         return refuse(list, notes, book, work, 9, 0);
     }
-    let s = resolution::resolve::close_up(list, notes, book, work, ps, p.marks, p.rising);
+    let s = resolution::resolve::close_up(list, notes, book, work, ps, p.marks);
     sized_up(list, notes, book, work, s)
 }
 

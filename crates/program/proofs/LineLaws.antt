@@ -1,7 +1,6 @@
 -- One law for each way out of the functions over lines.
 use mathlib.Core.Path.{_≡_, refl, sym as inv, ap, _∙_}
 use mathlib.Core.List.{List, [], _∷_}
-use mathlib.Core.Bool.{Bool, true, false}
 use Prim.Native.Nat.{ℕ, zero, suc, _+_, _*_, _-_, _≤_, _<_}
 use lib.ListN.{length, replicate}
 use borrow.Author.Tests.{lt-ltb, le-ltb}
@@ -24,7 +23,7 @@ use Rattle.jumps.specs.declared.jump.OptTarget.the-variants.{Given as givenTarg
 use Rattle.jumps.specs.Parts.{targetOf}
 use Rattle.program.specs.declared.line.Lines.{Lines}
 use Rattle.statements.specs.Stmt.{CompiledStmts}
-use Rattle.program.specs.Line.{lineWork, lineCount, stillRising, linesOf, CompiledLine, Programmed}
+use Rattle.program.specs.Line.{lineWork, lineCount, linesOf, CompiledLine, Programmed}
 use Rattle.program.proofs.MarkLaws.{Kept, kept-none, kept-line}
 
 -- the label's note
@@ -52,24 +51,15 @@ last-none o last e = rw e
 pub last-given : (o : OptTarget) (r : Range) (l : Label) (last : ℕ) → o ≡ givenTarget r l → l .0 + 1 ≡ lastLabel last (targetOf o)
 last-given o r l last e = rw e
 
-pub rising-none : (o : OptTarget) (last : ℕ) (rising : Bool) → o ≡ absentTarget → rising ≡ stillRising last (targetOf o) rising
-rising-none o last rising e = rw e
-
-pub rising-low : (o : OptTarget) (r : Range) (l : Label) (last : ℕ) (rising : Bool) → o ≡ givenTarget r l → l .0 < last → false ≡ stillRising last (targetOf o) rising
-rising-low o r l last rising e h = rw (e, lt-ltb (l .0) last h)
-
-pub rising-still : (o : OptTarget) (r : Range) (l : Label) (last : ℕ) (rising : Bool) → o ≡ givenTarget r l → last ≤ l .0 → rising ≡ stillRising last (targetOf o) rising
-rising-still o r l last rising e h = rw (e, le-ltb (l .0) last h)
-
 -- a line
-pub line-of : (s t : List ℕ) (line : ℕ) (c : Lines) (o : OptTarget) (len p q q1 k last base : ℕ) (rising : Bool) (l n n1 b l2 n2 b2 w w′ : List ℕ) (s1 s2 s3 : St)
+pub line-of : (s t : List ℕ) (line : ℕ) (c : Lines) (o : OptTarget) (len p q q1 k last base : ℕ) (l n n1 b l2 n2 b2 w w′ : List ℕ) (s1 s2 s3 : St)
     → len ≡ payloadAt s (c .at) → p ≡ next s (c .at) → targetOf o ≡ optAt s (targetAt s) p → q ≡ behindLabel s p → s1 ≡ onLine (c .st) line
     → mem l n1 b s2 ≡ labelNote (memR t) t (c .base) (c .last) (targetOf o) (mem l n b s1) → CompiledStmts s t (c .base) 64 q (mem l n1 b s2) (mem l2 n2 b2 s3) q1
     → (w′ ≡ lineWork (targetOf o) (c .st .records) (s3 .first) w (c .marks)) × (k ≡ lineCount (targetOf o) w (c .marks)) → last ≡ lastLabel (c .last) (targetOf o)
-    → base ≡ textPlace (c .base) len → rising ≡ stillRising (c .last) (targetOf o) (c .rising)
-    → CompiledLine s t line c (record { st = s3; at = q1; marks = k; last = last; base = base; rising = rising }) (mem l n b (c .st)) (mem l2 n2 b2 s3) w w′
+    → base ≡ textPlace (c .base) len
+    → CompiledLine s t line c (record { st = s3; at = q1; marks = k; last = last; base = base }) (mem l n b (c .st)) (mem l2 n2 b2 s3) w w′
 unfolding compileLine
-line-of s t line c o len p q q1 k last base rising l n n1 b l2 n2 b2 w w′ s1 s2 s3 hl hp ho hq hs hn x hw hla hb hr =
+line-of s t line c o len p q q1 k last base l n n1 b l2 n2 b2 w w′ s1 s2 s3 hl hp ho hq hs hn x hw hla hb =
     let g : targetOf o ≡ optAt s (targetAt s) (next s (c .at)) = rw (← hp) ho in
     let e : mem l2 n2 b2 s3 ≡ compileStmts (memR t) t (c .base) (lineStmts s (behindLabel s (next s (c .at))))
     (labelNote (memR t) t (c .base) (c .last) (optAt s (targetAt s) (next s (c .at))) (mem l n b (onLine (c .st) line))) =
@@ -85,21 +75,20 @@ line-of s t line c o len p q q1 k last base rising l n n1 b l2 n2 b2 w w′ s1 s
       }) e);
       words = hw .0 ∙ rw g;
       count = hw .1 ∙ rw g;
-      rising = hr ∙ rw g;
     }
 
 -- the loop: the labelled lines so far, and what is left to compile
 pub record Going (s t : List ℕ) (count line : ℕ) (c : Lines) (m₀ m : Mem) (w₀ w : List ℕ) : Type 0 where
   pub marks : List Mark
-  pub kept : w₀ ≡ replicate (length w₀) 0 → 3 * payloadAt s 0 ≤ length w₀ → Kept w (c .marks) (c .rising) (c .last) (count - line) marks
+  pub kept : w₀ ≡ replicate (length w₀) 0 → 3 * payloadAt s 0 < length w₀ → payloadAt s 0 < 65536 → Kept w (c .marks) (count - line) marks
   pub lines : compileLines (memR t) t (itemsAt s (lineAt s) (behindLine s) (count - line) (c .at)) (linesOf c line m marks) ≡ compileLines (memR t) t (programAt s) (firstLine (memR t) t m₀)
 
 pub going-start : (s t : List ℕ) (count at : ℕ) (l n b w : List ℕ) (st : St) → count ≡ payloadAt s 0 → at ≡ next s 0
-    → Going s t count 0 (record { st = st; at = at; marks = 0; last = 0; base = 0; rising = true }) (mem l n b st) (mem l n b st) w w
+    → Going s t count 0 (record { st = st; at = at; marks = 0; last = 0; base = 0 }) (mem l n b st) (mem l n b st) w w
 unfolding programAt
 going-start s t count at l n b w st hc ha = record {
   marks = [];
-  kept = λ z h. kept-none w (count - 0) z (omega arith);
+  kept = λ z h i. kept-none w (count - 0) z (omega arith) (omega arith);
   lines = let e : count - 0 ≡ payloadAt s 0 = omega arith in rw (e, ha);
 }
 
@@ -112,19 +101,14 @@ lines-more : (t : List ℕ) (l : ProgramLine) (ls : List ProgramLine) (c : Rules
 unfolding compileLines
 lines-more t l ls c = refl
 
-last-of : (t : List ℕ) (l : ProgramLine) (c : RulesLines Mem) → compileLine (memR t) t l c .last ≡ lastLabel (c .last) (l .label)
-unfolding compileLine
-last-of t l c = refl
-
 pub going-on : (s t : List ℕ) (count line : ℕ) (c d : Lines) (m₀ m m′ : Mem) (w₀ w w′ : List ℕ) → line < count → CompiledLine s t line c d m m′ w w′ → length w′ ≡ length w
     → Going s t count line c m₀ m w₀ w → Going s t count (line + 1) d m₀ m′ w₀ w′
 going-on s t count line c d m₀ m m′ w₀ w w′ h x same g =
     let left : count - (line + 1) ≡ count - line - 1 = omega arith in
-    let y : d .last ≡ lastLabel (c .last) (lineAt s (c .at) .label) = ap (λ (z : RulesLines Mem). z .last) (x .lines (g .marks)) ∙ last-of t (lineAt s (c .at)) (linesOf c line m (g .marks)) in
     record {
       marks = marked (lineAt s (c .at) .label) (m .st .records) (m′ .st .first) (g .marks);
-      kept = λ z i. rw (left, x .count, x .rising, y) (kept-line (isAbsent s (next s (c .at))) (targetAt s) (next s (c .at)) w (c .marks) (c .rising) (c .last) (count - line) (g .marks)
-          (m .st .records) (m′ .st .first) w′ (omega arith) (omega arith) (g .kept z i) same (x .words));
+      kept = λ z i j. rw (left, x .count) (kept-line (isAbsent s (next s (c .at))) (targetAt s) (next s (c .at)) w (c .marks) (count - line) (g .marks)
+          (m .st .records) (m′ .st .first) w′ (omega arith) (omega arith) (g .kept z i j) same (x .words));
       lines = rw (left, x .place, x .lines (g .marks)) (inv (lines-more t (lineAt s (c .at)) (itemsAt s (lineAt s) (behindLine s) (count - line - 1) (behindLine s (c .at))) (linesOf c line m (g .marks)))
           ∙ ap (λ (z : List ProgramLine). compileLines (memR t) t z (linesOf c line m (g .marks))) (inv (items-step s (count - line) (c .at) (omega arith))) ∙ g .lines);
     }
@@ -133,10 +117,10 @@ lines-none : (s t : List ℕ) (n at : ℕ) (c : RulesLines Mem) → n ≡ 0 → 
 unfolding compileLines itemsAt
 lines-none s t n at c e = rw e
 
-pub going-done : (s t : List ℕ) (count line : ℕ) (c : Lines) (m₀ m : Mem) (w₀ w : List ℕ) → count ≤ line → Going s t count line c m₀ m w₀ w → Programmed s t m₀ m w₀ w (c .marks) (c .rising)
+pub going-done : (s t : List ℕ) (count line : ℕ) (c : Lines) (m₀ m : Mem) (w₀ w : List ℕ) → count ≤ line → Going s t count line c m₀ m w₀ w → Programmed s t m₀ m w₀ w (c .marks)
 going-done s t count line c m₀ m w₀ w h g =
     let e : linesOf c line m (g .marks) ≡ compileLines (memR t) t (programAt s) (firstLine (memR t) t m₀) = lines-none s t (count - line) (c .at) (linesOf c line m (g .marks)) (omega arith) ∙ g .lines in
     record {
       state = ap (λ (z : RulesLines Mem). z .state) e;
-      marks = λ z i. rw (← ap (λ (z : RulesLines Mem). z .marks) e) (g .kept z i .marks);
+      marks = λ z i j. rw (← ap (λ (z : RulesLines Mem). z .marks) e) (g .kept z i j .marks);
     }

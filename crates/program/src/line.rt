@@ -7,24 +7,22 @@ ghost use Prim.Native.Nat.{ℕ};
 ghost use Rattle.recorder.specs.Mem.{mem, memR};
 ghost use Rattle.rules.specs.Program.{lastLabel, labelNote};
 ghost use Rattle.jumps.specs.Parts.{targetOf};
-ghost use Rattle.program.specs.Line.{lineWork, lineCount, stillRising, CompiledLine, Programmed};
+ghost use Rattle.program.specs.Line.{lineWork, lineCount, CompiledLine, Programmed};
 
 // How far the lines are compiled: where the next one is, how many labelled ones there are so far, the last label plus 1 (0 before
-// the first), where the next line begins in the text, and whether labels rose.
+// the first), and where the next line begins in the text.
 pub struct Lines {
     pub st: St,
     pub at: usize,
     pub marks: usize,
     pub last: u32,
     pub base: u32,
-    pub rising: bool,
 }
 
-// The lines compiled, the labelled ones in lent work: how many there are, and whether their labels rise.
+// The lines compiled, the labelled ones in lent work: how many there are.
 pub struct Program {
     pub st: St,
     pub marks: usize,
-    pub rising: bool,
 }
 
 // "1 labels not rising"
@@ -60,18 +58,6 @@ fn last_label(last: u32, o: OptTarget) -> u32
     (l.0 as u32) + 1
 }
 
-fn still_rising(rising: bool, last: u32, o: OptTarget) -> bool
-    ensures { λ x. ⌜ x ≡ stillRising last (targetOf o) rising ⌝ }
-{
-    let OptTarget::Given(_, l) = o else {
-        return rising;
-    };
-    if last <= (l.0 as u32) {
-        return rising;
-    }
-    false
-}
-
 // One line: its length, its label, its statements.
 fn compile_line(
     sheet: &[u32],
@@ -101,11 +87,10 @@ fn compile_line(
         marks,
         last: last_label(c.last, o),
         base: rules::name::text_place(c.base, length),
-        rising: still_rising(c.rising, c.last, o),
     }
 }
 
-// All lines, in order. The work should be zeros before, with three words for each line.
+// All lines, in order. The work should be zeros before, with three words for each line and one more.
 pub fn compile_prog(
     sheet: &[u32],
     text: &[u16],
@@ -115,7 +100,7 @@ pub fn compile_prog(
     work: &mut [u32],
     st: St,
 ) -> Program
-    ensures { λ x. ⌜ Programmed (now (sheet .entry)) (now (text .entry)) (mem (now (list .entry)) (now (notes .entry)) (now (book .entry)) st) (mem (now (list .exit)) (now (notes .exit)) (now (book .exit)) (x .st)) (now (work .entry)) (now (work .exit)) (x .marks) (x .rising) ⌝ }
+    ensures { λ x. ⌜ Programmed (now (sheet .entry)) (now (text .entry)) (mem (now (list .entry)) (now (notes .entry)) (now (book .entry)) st) (mem (now (list .exit)) (now (notes .exit)) (now (book .exit)) (x .st)) (now (work .entry)) (now (work .exit)) (x .marks) ⌝ }
 {
     let count = recorder::word::payload_at(sheet, 0);
     let at = recorder::word::behind(sheet, 0);
@@ -125,7 +110,6 @@ pub fn compile_prog(
         marks: 0,
         last: 0,
         base: 0,
-        rising: true,
     };
     let mut line: u32 = 0;
     while line < count {
@@ -136,6 +120,5 @@ pub fn compile_prog(
     Program {
         st: s,
         marks: c.marks,
-        rising: c.rising,
     }
 }

@@ -1,10 +1,9 @@
 -- A label looked up among the labelled lines in the work.
 use mathlib.Core.Path.{_≡_, refl, sym as inv, ap, _∙_}
 use mathlib.Core.List.{List, [], _∷_}
-use mathlib.Core.Bool.{Bool, true}
-use Prim.Native.Nat.{ℕ, _-_, _<_}
+use mathlib.Core.Bool.{true}
+use Prim.Native.Nat.{ℕ, _<_}
 use lib.Dec.{ltb}
-use lib.ListN.{length, replicate}
 use borrow.Author.Tests.{ne-eqb, ltb-true}
 use native.Mathlib.Omega.{arith}
 use Rattle.recorder.specs.declared.label.Addr.{Addr}
@@ -14,12 +13,11 @@ use Rattle.closing.specs.declared.marks.Target.the-variants.{At, Nowhere}
 use Rattle.closing.specs.declared.marks.Start.{Start}
 use Rattle.closing.specs.declared.marks.Start.the-variants.{From, NoData}
 use Rattle.recorder.specs.Ideal.{Search, missing, found}
-use Rattle.recorder.specs.Layout.{wordsOf}
 use Rattle.recorder.specs.Marks.{Mark, addrOf, dataOf}
 use Rattle.recorder.proofs.Bools.{both-left, both-right}
-use Rattle.closing.specs.MarkWords.{markWords, targetFound, startFound, findLabel, findDatum}
-use Rattle.closing.specs.MarksIn.{narrow, MarksIn}
-use Rattle.closing.proofs.MarkSearch.{find-label-is, find-datum-is}
+use Rattle.closing.specs.MarkWords.{targetFound, startFound}
+use Rattle.closing.specs.MarksIn.{narrow}
+use Rattle.closing.specs.Chains.{Chained}
 
 -- no line has a label of more than 16 bits
 addr-wide : (ms : List Mark) (l : ℕ) → narrow ms ≡ true → 65535 < l → addrOf ms l ≡ missing
@@ -36,19 +34,11 @@ data-wide (m ∷ ms) l r h =
     let b = ltb-true (m .label) 65536 (both-left (ltb (m .label) 65536) (narrow ms) r) in
     rw (data-wide ms l (both-right (ltb (m .label) 65536) (narrow ms) r) h, ne-eqb (m .label) l (λ z. omega arith))
 
-pub no-target : (w : List ℕ) (n l : ℕ) (rising : Bool) (ms : List Mark) → 65535 < l → MarksIn w n rising ms → Nowhere ≡ targetFound (addrOf ms l)
-no-target w n l rising ms h k = rw (addr-wide ms l (k .labels) h)
+pub no-target : (w : List ℕ) (n h l : ℕ) (ms : List Mark) → 65535 < l → Chained w n h n ms → Nowhere ≡ targetFound (addrOf ms l)
+no-target w n h l ms i c = rw (addr-wide ms l (c .labels) i)
 
-pub target-is : (w : List ℕ) (n l : ℕ) (rising : Bool) (x : Target) (ms : List Mark) → x ≡ targetFound (findLabel w n l rising) → MarksIn w n rising ms → x ≡ targetFound (addrOf ms l)
-target-is w n l rising x ms e k =
-    e ∙ ap targetFound (find-label-is ms (replicate (length w - length (wordsOf markWords ms)) 0) w (k .words) l n rising (k .count) (k .sorted))
-
-pub no-start : (w : List ℕ) (n l : ℕ) (rising : Bool) (ms : List Mark) → 65535 < l → MarksIn w n rising ms → NoData ≡ startFound (dataOf ms l)
-no-start w n l rising ms h k = rw (data-wide ms l (k .labels) h)
-
-pub start-is : (w : List ℕ) (n l : ℕ) (rising : Bool) (x : Start) (ms : List Mark) → x ≡ startFound (findDatum w n l rising) → MarksIn w n rising ms → x ≡ startFound (dataOf ms l)
-start-is w n l rising x ms e k =
-    e ∙ ap startFound (find-datum-is ms (replicate (length w - length (wordsOf markWords ms)) 0) w (k .words) l n rising (k .count) (k .sorted))
+pub no-start : (w : List ℕ) (n h l : ℕ) (ms : List Mark) → 65535 < l → Chained w n h n ms → NoData ≡ startFound (dataOf ms l)
+no-start w n h l ms i c = rw (data-wide ms l (c .labels) i)
 
 -- what an answer says
 abbrev targetSearch : Target → Search

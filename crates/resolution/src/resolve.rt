@@ -1,4 +1,5 @@
 // "After the lines: jumps in order of pending, then RESTOREs": resolve_labels and resolve_datum_indices of compiler.rs.
+use closing::closing::call_of;
 use closing::marks::Start;
 use closing::marks::Target;
 use recorder::codegen::Looked;
@@ -16,9 +17,10 @@ ghost use Rattle.recorder.specs.Recorder.{unpack};
 ghost use Rattle.recorder.specs.Marks.{Mark, addrOf, dataOf};
 ghost use Rattle.closing.specs.MarkWords.{targetFound, startFound};
 ghost use Rattle.closing.specs.MarksIn.{MarksIn};
+ghost use Rattle.closing.specs.Chains.{Chained};
 ghost use Rattle.recorder.specs.Mem.{Mem, mem, memR, lookAt};
-ghost use Rattle.rules.specs.Program.{Lines, settleBy, settleJump, settleRestore, resolveLabels, resolveDatumIndices, closeUp};
-ghost use Rattle.resolution.specs.Looks.{asLook};
+ghost use Rattle.rules.specs.Program.{Lines, settleBy, resolveLabels, resolveDatumIndices, closeUp};
+ghost use Rattle.resolution.specs.Looks.{asLook, settleWaiting};
 
 // The range that a waiting record keeps as one number.
 fn unpacked(c: u32) -> Range
@@ -40,24 +42,24 @@ fn is_jump(call: u32) -> bool
 }
 
 // A line's label has 16 bits: no line has a larger one.
-fn target_of(work: &[u32], n: usize, label: u32, rising: bool) -> Target
-    ensures { λ x. ⌜ ((ms : List Mark) → MarksIn (now (work .entry)) n rising ms → x ≡ targetFound (addrOf ms label)) ⌝ }
+fn target_of(work: &[u32], n: usize, label: u32, chains: usize) -> Target
+    ensures { λ x. ⌜ ((ms : List Mark) → Chained (now (work .entry)) n chains n ms → x ≡ targetFound (addrOf ms label)) ⌝ }
 {
     if 65535 < label {
         return Target::Nowhere;
     }
     let l = label as u16;
-    closing::marks::find_label(work, n, Label(l), rising)
+    closing::marks::find_label(work, n, Label(l), chains)
 }
 
-fn start_of(work: &[u32], n: usize, label: u32, rising: bool) -> Start
-    ensures { λ x. ⌜ ((ms : List Mark) → MarksIn (now (work .entry)) n rising ms → x ≡ startFound (dataOf ms label)) ⌝ }
+fn start_of(work: &[u32], n: usize, label: u32, chains: usize) -> Start
+    ensures { λ x. ⌜ ((ms : List Mark) → Chained (now (work .entry)) n chains n ms → x ≡ startFound (dataOf ms label)) ⌝ }
 {
     if 65535 < label {
         return Start::NoData;
     }
     let l = label as u16;
-    closing::marks::find_datum(work, n, Label(l), rising)
+    closing::marks::find_datum(work, n, Label(l), chains)
 }
 
 // One whose label is nowhere: it waits no more, and its own line gets a note.
@@ -77,7 +79,7 @@ fn miss(
     recorder::codegen::note_at(notes, st, q.line, class, r, severity)
 }
 
-// "2 target missing"
+// A jump: its label's line, or "2 target missing".
 fn settle_jump(
     list: &mut [u32],
     notes: &mut [u32],
@@ -85,19 +87,16 @@ fn settle_jump(
     st: St,
     k: u32,
     n: usize,
-    rising: bool,
+    chains: usize,
 ) -> St
-    ensures { λ x. ⌜ ((t b : List ℕ) (ms : List Mark) → MarksIn (now (work .entry)) n rising ms → mem (now (list .exit)) (now (notes .exit)) b x ≡ settleJump (memR t) ms k (lookAt (now (list .entry)) k) (mem (now (list .entry)) (now (notes .entry)) b st)) ⌝ }
+    ensures { λ x. ⌜ ((t b : List ℕ) (ms : List Mark) → Chained (now (work .entry)) n chains n ms → mem (now (list .exit)) (now (notes .exit)) b x ≡ settleWaiting t (addrOf ms) 2 1 k (lookAt (now (list .entry)) k) (mem (now (list .entry)) (now (notes .entry)) b st)) ⌝ }
 {
     let q = recorder::codegen::look(list, Addr(k));
     let label = q.b;
     if label == 0 {
         return st;
     }
-    if !is_jump(q.call) {
-        return st;
-    }
-    let o = target_of(work, n, label - 1, rising);
+    let o = target_of(work, n, label - 1, chains);
     let Target::At(a) = o else {
         return miss(list, notes, st, k, q, 2, 1);
     };
@@ -105,7 +104,7 @@ fn settle_jump(
     st
 }
 
-// "3 RESTORE target missing (warning)"
+// A RESTORE: its label's first datum, or "3 RESTORE target missing (warning)".
 fn settle_restore(
     list: &mut [u32],
     notes: &mut [u32],
@@ -113,19 +112,16 @@ fn settle_restore(
     st: St,
     k: u32,
     n: usize,
-    rising: bool,
+    chains: usize,
 ) -> St
-    ensures { λ x. ⌜ ((t b : List ℕ) (ms : List Mark) → MarksIn (now (work .entry)) n rising ms → mem (now (list .exit)) (now (notes .exit)) b x ≡ settleRestore (memR t) ms k (lookAt (now (list .entry)) k) (mem (now (list .entry)) (now (notes .entry)) b st)) ⌝ }
+    ensures { λ x. ⌜ ((t b : List ℕ) (ms : List Mark) → Chained (now (work .entry)) n chains n ms → mem (now (list .exit)) (now (notes .exit)) b x ≡ settleWaiting t (dataOf ms) 3 2 k (lookAt (now (list .entry)) k) (mem (now (list .entry)) (now (notes .entry)) b st)) ⌝ }
 {
     let q = recorder::codegen::look(list, Addr(k));
     let label = q.b;
     if label == 0 {
         return st;
     }
-    if q.call != 31 {
-        return st;
-    }
-    let o = start_of(work, n, label - 1, rising);
+    let o = start_of(work, n, label - 1, chains);
     let Start::From(d) = o else {
         return miss(list, notes, st, k, q, 3, 2);
     };
@@ -139,16 +135,19 @@ pub fn resolve_labels(
     work: &[u32],
     st: St,
     n: usize,
-    rising: bool,
+    chains: usize,
 ) -> St
-    ensures { λ x. ⌜ ((t b : List ℕ) (ms : List Mark) → MarksIn (now (work .entry)) n rising ms → mem (now (list .exit)) (now (notes .exit)) b x ≡ resolveLabels (memR t) ms 0 (st .records) (mem (now (list .entry)) (now (notes .entry)) b st)) ⌝ }
+    ensures { λ x. ⌜ ((t b : List ℕ) (ms : List Mark) → Chained (now (work .entry)) n chains n ms → mem (now (list .exit)) (now (notes .exit)) b x ≡ resolveLabels (memR t) ms 0 (st .records) (mem (now (list .entry)) (now (notes .entry)) b st)) ⌝ }
 {
     let count = st.records;
     let mut s = st;
     let mut k: u32 = 0;
     while k < count {
-        s = settle_jump(list, notes, work, s, k, n, rising);
+        let at = k;
         k += 1;
+        if is_jump(call_of(list, at)) {
+            s = settle_jump(list, notes, work, s, at, n, chains);
+        }
     }
     s
 }
@@ -159,34 +158,37 @@ pub fn resolve_datum_indices(
     work: &[u32],
     st: St,
     n: usize,
-    rising: bool,
+    chains: usize,
 ) -> St
-    ensures { λ x. ⌜ ((t b : List ℕ) (ms : List Mark) → MarksIn (now (work .entry)) n rising ms → mem (now (list .exit)) (now (notes .exit)) b x ≡ resolveDatumIndices (memR t) ms 0 (st .records) (mem (now (list .entry)) (now (notes .entry)) b st)) ⌝ }
+    ensures { λ x. ⌜ ((t b : List ℕ) (ms : List Mark) → Chained (now (work .entry)) n chains n ms → mem (now (list .exit)) (now (notes .exit)) b x ≡ resolveDatumIndices (memR t) ms 0 (st .records) (mem (now (list .entry)) (now (notes .entry)) b st)) ⌝ }
 {
     let count = st.records;
     let mut s = st;
     let mut k: u32 = 0;
     while k < count {
-        s = settle_restore(list, notes, work, s, k, n, rising);
+        let at = k;
         k += 1;
+        if call_of(list, at) == 31 {
+            s = settle_restore(list, notes, work, s, at, n, chains);
+        }
     }
     s
 }
 
-// "Closing up": jumps, RESTOREs, then WHILEs, delays and End. The names' links go.
+// "Closing up": jumps, RESTOREs, then WHILEs, delays and End. The names' links go. The lines in work are put into chains.
 pub fn close_up(
     list: &mut [u32],
     notes: &mut [u32],
     book: &mut [u32],
-    work: &[u32],
+    work: &mut [u32],
     st: St,
     n: usize,
-    rising: bool,
 ) -> St
-    ensures { λ x. ⌜ ((t : List ℕ) (c : Lines Mem) → c .state ≡ mem (now (list .entry)) (now (notes .entry)) (now (book .entry)) st → MarksIn (now (work .entry)) n rising (c .marks) → mem (now (list .exit)) (now (notes .exit)) (now (book .exit)) x ≡ closeUp (memR t) c) ⌝ }
+    ensures { λ x. ⌜ ((t : List ℕ) (c : Lines Mem) → c .state ≡ mem (now (list .entry)) (now (notes .entry)) (now (book .entry)) st → MarksIn (now (work .entry)) n (c .marks) → mem (now (list .exit)) (now (notes .exit)) (now (book .exit)) x ≡ closeUp (memR t) c) ⌝ }
 {
-    let jumps = resolve_labels(list, notes, work, st, n, rising);
-    let restores = resolve_datum_indices(list, notes, work, jumps, n, rising);
+    let chains = closing::marks::index_lines(work, n);
+    let jumps = resolve_labels(list, notes, work, st, n, chains);
+    let restores = resolve_datum_indices(list, notes, work, jumps, n, chains);
     closing::closing::unlink_names(book, restores);
     closing::closing::clean_up(list, notes, restores)
 }

@@ -1,4 +1,5 @@
--- A line of an accepted sheet has at least three words: its length, its label or the absence of one, its count.
+-- A line of an accepted sheet has at least three words: its length, its label or the absence of one, its count. The lines' number
+-- stands before them.
 use mathlib.Core.Path.{_≡_, refl}
 use mathlib.Core.Bool.{Bool, true, false}
 use mathlib.Core.List.{List}
@@ -94,12 +95,16 @@ module _ (s t : List ℕ) where
       let a = then-first (linesForm s t (suc n) base p) (lineForm s t base p) (λ r. linesForm s t n (base + payloadAt s p) r) q refl e in
       omega (arith, line-reads base p .past (a .0) (a .1), lines-read n (base + payloadAt s p) (a .0) q (a .2))
 
-  sheet-reads : (q : ℕ) → sheetForm s t ≡ Behind q → 3 * payloadAt s 0 ≤ length s
+  sheet-reads : (q : ℕ) → sheetForm s t ≡ Behind q → 3 * payloadAt s 0 < length s
   unfolding sheetForm
   sheet-reads q e =
       let a = then-first (sheetForm s t) (takeWord s 15 16777216 0) (λ p. linesForm s t (payloadAt s 0) 0 p) q refl e in
-      omega (arith, lines-read (payloadAt s 0) 0 (a .0) q (a .2), sheet-within s t q e)
+      omega (arith, word-reads s 15 16777216 0 (omega arith) .past (a .0) (a .1), lines-read (payloadAt s 0) 0 (a .0) q (a .2), sheet-within s t q e)
 
--- THEOREM: three words for each line of an accepted sheet are no more than work has
-pub lines-fit : (s t : List ℕ) (work : ℕ) → checked s t work ≡ Accepted → 3 * payloadAt s 0 ≤ work
+-- THEOREM: three words for each line of an accepted sheet, and one more, are no more than work has
+pub lines-fit : (s t : List ℕ) (work : ℕ) → checked s t work ≡ Accepted → 3 * payloadAt s 0 < work
 lines-fit s t work e = let w = walked s t work e in omega (arith, sheet-reads s t (w .end) (w .walks), w .enough)
+
+-- THEOREM: the number of an accepted sheet's lines has 16 bits
+pub lines-few : (s t : List ℕ) (work : ℕ) → checked s t work ≡ Accepted → payloadAt s 0 < 65536
+lines-few s t work e = let w = walked s t work e in omega (arith, sheet-reads s t (w .end) (w .walks), w .short)

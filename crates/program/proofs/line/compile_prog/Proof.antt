@@ -20,31 +20,31 @@ Inv-loop sheet text list₀ notes₀ book₀ work₀ count at c₀ line₀ list 
 abbrev μ-loop : tie.MeasureT-loop
 μ-loop sheet text list₀ notes₀ book₀ work₀ count at c₀ line₀ list notes book work c line = count - line
 
--- src/line.rt:120:9
+-- src/line.rt:105:9
 payload-at-requires : tie.Need-payload-at-requires Inv-loop μ-loop
 payload-at-requires c κs = search needs
 
--- src/line.rt:121:9
+-- src/line.rt:106:9
 behind-requires : tie.Need-behind-requires Inv-loop μ-loop
 behind-requires c κs = search needs
 
--- src/line.rt:131:5
+-- src/line.rt:115:5
 loop-holds : tie.Need-loop-holds Inv-loop μ-loop
 loop-holds c = (refl, refl, refl, refl, going-start _ (c .before .before .before .before .before .before .before .before .args .text .now) _ _ _ _ _ _ _ (c .before .payload-at .ensures) (c .behind .ensures))
 
--- src/line.rt:132:9
+-- src/line.rt:116:9
 compile-line-requires : tie.Need-compile-line-requires Inv-loop μ-loop
 compile-line-requires c κs = search needs
 
--- src/line.rt:133:9
+-- src/line.rt:117:9
 add-line : tie.Need-add-line Inv-loop μ-loop
 add-line c = omega arith
 
--- src/line.rt:131:5
+-- src/line.rt:115:5
 loop-less : tie.Need-loop-less Inv-loop μ-loop
 loop-less c = omega arith
 
--- src/line.rt:131:5
+-- src/line.rt:115:5
 loop-again : tie.Need-loop-again Inv-loop μ-loop
 loop-again c = (
   (c .before .before .before .before .before .before .before .before .compile-line .kept .1 .1 .0) ∙ (c .before .before .before .before .before .before .before .before .before .before .before .before .before .before .loop .inv .0),
@@ -54,23 +54,23 @@ loop-again c = (
   going-on _ _ _ _ _ _ _ _ _ _ _ _ (c .before .before .before .before .before .before .before .before .before .before .before .before .before .loop-test .taken) (c .before .before .before .before .before .before .before .before .compile-line .ensures) (c .before .before .before .before .before .before .before .before .compile-line .kept .1 .1 .1 .1 .1 .0) (c .before .before .before .before .before .before .before .before .before .before .before .before .before .before .loop .inv .4),
 )
 
--- src/line.rt:109:1
+-- src/line.rt:94:1
 same-length : tie.Need-same-length Inv-loop μ-loop
 same-length c = (c .before .before .loop .inv .0)
 
--- src/line.rt:109:1
+-- src/line.rt:94:1
 same-length-2 : tie.Need-same-length-2 Inv-loop μ-loop
 same-length-2 c = (c .before .before .loop .inv .1)
 
--- src/line.rt:109:1
+-- src/line.rt:94:1
 same-length-3 : tie.Need-same-length-3 Inv-loop μ-loop
 same-length-3 c = (c .before .before .loop .inv .2)
 
--- src/line.rt:109:1
+-- src/line.rt:94:1
 same-length-4 : tie.Need-same-length-4 Inv-loop μ-loop
 same-length-4 c = (c .before .before .loop .inv .3)
 
--- src/line.rt:109:1
+-- src/line.rt:94:1
 returns : tie.Need-returns Inv-loop μ-loop
 returns c = going-done _ _ _ _ _ _ _ _ _ (c .before .loop-test .left) (c .before .before .loop .inv .4)
 

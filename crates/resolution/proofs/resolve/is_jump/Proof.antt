@@ -5,11 +5,11 @@ use Rattle.resolution.proofs.resolve.is_jump.Tie as tie
 use Rattle.resolution.proofs.resolve.is_jump.Reads as reads
 use Rattle.resolution.proofs.resolve.is_jump.Lts as lts
 
--- src/resolve.rt:36:9
+-- src/resolve.rt:39:9
 returns : tie.Need-returns
 returns c = jump-yes _ (c .if1 .taken)
 
--- src/resolve.rt:32:1
+-- src/resolve.rt:35:1
 returns-2 : tie.Need-returns-2
 returns-2 c = jump-or _ _ (c .if1 .left) refl
 

@@ -1,4 +1,4 @@
-use Rattle.resolution.proofs.SearchLaws.{no-start, start-is}
+use Rattle.resolution.proofs.SearchLaws.{no-start}
 use borrow.Author.Needs.{needs}
 use Rattle.resolution.proofs.resolve.start_of.Statement.{statement}
 use Rattle.resolution.proofs.resolve.start_of.Tie as tie
@@ -6,21 +6,21 @@ use Rattle.resolution.proofs.resolve.start_of.Reads as reads
 use Rattle.resolution.proofs.resolve.start_of.Lts as lts
 use Rattle.closing.proofs.marks.find_datum.Reads as find-datum-reads
 
--- src/resolve.rt:56:9
+-- src/resolve.rt:59:9
 returns : tie.Need-returns
 returns c = λ ms k. no-start _ _ _ _ ms (c .if1 .taken) k
 
--- src/resolve.rt:58:13
+-- src/resolve.rt:61:13
 cast-l : tie.Need-cast-l
 cast-l c = search needs
 
--- src/resolve.rt:59:5
+-- src/resolve.rt:62:5
 find-datum-requires : tie.Need-find-datum-requires
 find-datum-requires c κs = search needs
 
--- src/resolve.rt:52:1
+-- src/resolve.rt:55:1
 returns-2 : tie.Need-returns-2
-returns-2 c = λ ms k. start-is _ _ _ _ (c .find-datum .result) ms (c .find-datum .ensures) k
+returns-2 c = (c .find-datum .ensures)
 
 pub start-of-spec : {M : Type 1} → statement M
 start-of-spec = tie.close (tie.spec returns cast-l find-datum-requires returns-2)
