@@ -1,4 +1,2 @@
-pub mod MarkLaws
-pub mod MarkSearch
 pub mod ClosingLaws
 pub mod OnePass

@@ -1,4 +1,2 @@
-// What closing up needs above the recorder: the passes over the list, and the labelled lines in lent work.
-// Named after vm/codegen.rs and compiler.rs of the Rust.
+// Closing up what is the recorder's: the passes over the list. Named after vm/codegen.rs of the Rust.
 pub mod closing;
-pub mod marks;

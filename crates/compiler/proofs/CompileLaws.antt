@@ -14,7 +14,7 @@ use Rattle.sheet.specs.declared.form.Checked.the-variants.{Accepted, TooLong, S
 use Rattle.sheet.specs.declared.form.Offence.the-variants.{BadWord, TooDeep, BadLength, BadRange, Fseek}
 use Rattle.sheet.specs.Check.{checked, refusalNumber, refusalPlace}
 use Rattle.walk.proofs.LinesFit.{lines-fit, lines-few}
-use Rattle.closing.specs.MarksIn.{MarksIn}
+use Rattle.labels.specs.MarksIn.{MarksIn}
 use Rattle.program.specs.Line.{Programmed}
 use Rattle.rules.specs.Program.{Lines, closeUp}
 use Rattle.recorder.specs.Layout.{mostRecords}

@@ -11,7 +11,7 @@ use Rattle.recorder.specs.declared.label.Label.{Label}
 use Rattle.recorder.specs.declared.codegen.St.{St}
 use Rattle.recorder.specs.Word.{payloadAt, next}
 use Rattle.recorder.specs.Marks.{Mark}
-use Rattle.closing.specs.MarkWords.{markList, markCount}
+use Rattle.labels.specs.MarkWords.{markList, markCount}
 use Rattle.recorder.specs.Mem.{Mem, mem, memR, onLine}
 use Rattle.sheet.specs.Form.{isAbsent}
 use Rattle.sheet.specs.Tree.{ProgramLine, optAt, targetAt, behindLabel, lineStmts, lineAt, behindLine, itemsAt, programAt}

@@ -11,9 +11,9 @@ use Rattle.recorder.specs.Word.{choose}
 use Rattle.recorder.specs.Layout.{wordsOf, fill}
 use Rattle.recorder.specs.Marks.{Mark, mark}
 use Rattle.recorder.proofs.Bools.{both-left, both-right}
-use Rattle.closing.specs.MarkWords.{markWords, markList, markCount}
-use Rattle.closing.specs.MarksIn.{narrow, MarksIn}
-use Rattle.closing.proofs.MarkSearch.{mark-put}
+use Rattle.labels.specs.MarkWords.{markWords, markList, markCount}
+use Rattle.labels.specs.MarksIn.{narrow, MarksIn}
+use Rattle.labels.proofs.MarkSearch.{mark-put}
 use Rattle.sheet.specs.Tree.{absent, given, Target}
 use Rattle.rules.specs.Program.{marked}
 use Rattle.program.specs.Line.{lineWork, lineCount}

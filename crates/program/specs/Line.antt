@@ -5,8 +5,8 @@ use Prim.Native.Nat.{ℕ, _+_, _*_, _<_}
 use lib.ListN.{length, replicate}
 use Rattle.recorder.specs.Word.{payloadAt}
 use Rattle.recorder.specs.Marks.{Mark}
-use Rattle.closing.specs.MarkWords.{markList, markCount}
-use Rattle.closing.specs.MarksIn.{MarksIn}
+use Rattle.labels.specs.MarkWords.{markList, markCount}
+use Rattle.labels.specs.MarksIn.{MarksIn}
 use Rattle.recorder.specs.Mem.{Mem, memR}
 use Rattle.sheet.specs.Tree.{Opt, absent, given, Target, lineAt, behindLine, programAt}
 use Rattle.rules.specs.Program.{marked, compileLine, compileLines, firstLine}

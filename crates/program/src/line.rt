@@ -46,7 +46,7 @@ fn mark_line(work: &mut [u32], n: usize, o: OptTarget, before: St, after: St) ->
         return n;
     };
     let addr = recorder::codegen::current_addr(before);
-    closing::marks::put_mark(work, n, l, addr, after.first)
+    labels::marks::put_mark(work, n, l, addr, after.first)
 }
 
 fn last_label(last: u32, o: OptTarget) -> u32

@@ -8,16 +8,16 @@ use borrow.Author.Tests.{ne-eqb, ltb-true}
 use native.Mathlib.Omega.{arith}
 use Rattle.recorder.specs.declared.label.Addr.{Addr}
 use Rattle.recorder.specs.declared.label.DatumIndex.{DatumIndex}
-use Rattle.closing.specs.declared.marks.Target.{Target}
-use Rattle.closing.specs.declared.marks.Target.the-variants.{At, Nowhere}
-use Rattle.closing.specs.declared.marks.Start.{Start}
-use Rattle.closing.specs.declared.marks.Start.the-variants.{From, NoData}
+use Rattle.labels.specs.declared.marks.Target.{Target}
+use Rattle.labels.specs.declared.marks.Target.the-variants.{At, Nowhere}
+use Rattle.labels.specs.declared.marks.Start.{Start}
+use Rattle.labels.specs.declared.marks.Start.the-variants.{From, NoData}
 use Rattle.recorder.specs.Ideal.{Search, missing, found}
 use Rattle.recorder.specs.Marks.{Mark, addrOf, dataOf}
 use Rattle.recorder.proofs.Bools.{both-left, both-right}
-use Rattle.closing.specs.MarkWords.{targetFound, startFound}
-use Rattle.closing.specs.MarksIn.{narrow}
-use Rattle.closing.specs.Chains.{Chained}
+use Rattle.labels.specs.MarkWords.{targetFound, startFound}
+use Rattle.labels.specs.MarksIn.{narrow}
+use Rattle.labels.specs.Chains.{Chained}
 
 -- no line has a label of more than 16 bits
 addr-wide : (ms : List Mark) (l : ℕ) → narrow ms ≡ true → 65535 < l → addrOf ms l ≡ missing

@@ -1,7 +1,7 @@
 // "After the lines: jumps in order of pending, then RESTOREs": resolve_labels and resolve_datum_indices of compiler.rs.
 use closing::closing::call_of;
-use closing::marks::Start;
-use closing::marks::Target;
+use labels::marks::Start;
+use labels::marks::Target;
 use recorder::codegen::Looked;
 use recorder::codegen::St;
 use recorder::label::Addr;
@@ -15,9 +15,9 @@ ghost use Rattle.recorder.specs.Word.{either};
 ghost use Rattle.recorder.specs.Ideal.{missing};
 ghost use Rattle.recorder.specs.Recorder.{unpack};
 ghost use Rattle.recorder.specs.Marks.{Mark, addrOf, dataOf};
-ghost use Rattle.closing.specs.MarkWords.{targetFound, startFound};
-ghost use Rattle.closing.specs.MarksIn.{MarksIn};
-ghost use Rattle.closing.specs.Chains.{Chained};
+ghost use Rattle.labels.specs.MarkWords.{targetFound, startFound};
+ghost use Rattle.labels.specs.MarksIn.{MarksIn};
+ghost use Rattle.labels.specs.Chains.{Chained};
 ghost use Rattle.recorder.specs.Mem.{Mem, mem, memR, lookAt};
 ghost use Rattle.rules.specs.Program.{Lines, settleBy, resolveLabels, resolveDatumIndices, closeUp};
 ghost use Rattle.resolution.specs.Looks.{asLook, settleWaiting};
@@ -49,7 +49,7 @@ fn target_of(work: &[u32], n: usize, label: u32, chains: usize) -> Target
         return Target::Nowhere;
     }
     let l = label as u16;
-    closing::marks::find_label(work, n, Label(l), chains)
+    labels::marks::find_label(work, n, Label(l), chains)
 }
 
 fn start_of(work: &[u32], n: usize, label: u32, chains: usize) -> Start
@@ -59,7 +59,7 @@ fn start_of(work: &[u32], n: usize, label: u32, chains: usize) -> Start
         return Start::NoData;
     }
     let l = label as u16;
-    closing::marks::find_datum(work, n, Label(l), chains)
+    labels::marks::find_datum(work, n, Label(l), chains)
 }
 
 // One whose label is nowhere: it waits no more, and its own line gets a note.
@@ -186,7 +186,7 @@ pub fn close_up(
 ) -> St
     ensures { λ x. ⌜ ((t : List ℕ) (c : Lines Mem) → c .state ≡ mem (now (list .entry)) (now (notes .entry)) (now (book .entry)) st → MarksIn (now (work .entry)) n (c .marks) → mem (now (list .exit)) (now (notes .exit)) (now (book .exit)) x ≡ closeUp (memR t) c) ⌝ }
 {
-    let chains = closing::marks::index_lines(work, n);
+    let chains = labels::marks::index_lines(work, n);
     let jumps = resolve_labels(list, notes, work, st, n, chains);
     let restores = resolve_datum_indices(list, notes, work, jumps, n, chains);
     closing::closing::unlink_names(book, restores);

@@ -5,7 +5,7 @@ use Rattle.program.proofs.line.mark_line.Tie as tie
 use Rattle.program.proofs.line.mark_line.Reads as reads
 use Rattle.program.proofs.line.mark_line.Lts as lts
 use Rattle.recorder.proofs.codegen.current_addr.Reads as current-addr-reads
-use Rattle.closing.proofs.marks.put_mark.Reads as put-mark-reads
+use Rattle.labels.proofs.marks.put_mark.Reads as put-mark-reads
 
 -- src/line.rt:49:29
 enum-known-o : tie.Need-enum-known-o

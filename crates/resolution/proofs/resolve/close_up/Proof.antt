@@ -7,7 +7,7 @@ use Rattle.resolution.proofs.resolve.close_up.Reads as reads
 use Rattle.resolution.proofs.resolve.close_up.Lts as lts
 use Rattle.closing.proofs.closing.clean_up.Reads as clean-up-reads
 use Rattle.closing.proofs.closing.unlink_names.Reads as unlink-names-reads
-use Rattle.closing.proofs.marks.index_lines.Reads as index-lines-reads
+use Rattle.labels.proofs.marks.index_lines.Reads as index-lines-reads
 use Rattle.resolution.proofs.resolve.resolve_datum_indices.Reads as resolve-datum-indices-reads
 use Rattle.resolution.proofs.resolve.resolve_labels.Reads as resolve-labels-reads
 

@@ -7,7 +7,7 @@ use lib.ListN.{length}
 use Rattle.recorder.specs.Marks.{Mark}
 use Rattle.recorder.specs.Mem.{mem, memR}
 use Rattle.rules.specs.Program.{resolveDatumIndices}
-use Rattle.closing.specs.Chains.{Chained}
+use Rattle.labels.specs.Chains.{Chained}
 use Rattle.resolution.proofs.ResolveLaws.{indices-restore, indices-other, from-start, indices-done}
 use Rattle.resolution.proofs.resolve.resolve_datum_indices.Statement.{statement}
 use Rattle.resolution.proofs.resolve.resolve_datum_indices.Tie as tie

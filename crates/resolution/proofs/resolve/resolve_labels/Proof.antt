@@ -7,7 +7,7 @@ use lib.ListN.{length}
 use Rattle.recorder.specs.Marks.{Mark}
 use Rattle.recorder.specs.Mem.{mem, memR}
 use Rattle.rules.specs.Program.{resolveLabels}
-use Rattle.closing.specs.Chains.{Chained}
+use Rattle.labels.specs.Chains.{Chained}
 use Rattle.resolution.proofs.ResolveLaws.{labels-jump, labels-other, from-start, labels-done}
 use Rattle.resolution.proofs.resolve.resolve_labels.Statement.{statement}
 use Rattle.resolution.proofs.resolve.resolve_labels.Tie as tie

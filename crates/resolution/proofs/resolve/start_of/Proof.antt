@@ -4,7 +4,7 @@ use Rattle.resolution.proofs.resolve.start_of.Statement.{statement}
 use Rattle.resolution.proofs.resolve.start_of.Tie as tie
 use Rattle.resolution.proofs.resolve.start_of.Reads as reads
 use Rattle.resolution.proofs.resolve.start_of.Lts as lts
-use Rattle.closing.proofs.marks.find_datum.Reads as find-datum-reads
+use Rattle.labels.proofs.marks.find_datum.Reads as find-datum-reads
 
 -- src/resolve.rt:59:9
 returns : tie.Need-returns

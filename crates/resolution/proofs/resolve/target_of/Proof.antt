@@ -4,7 +4,7 @@ use Rattle.resolution.proofs.resolve.target_of.Statement.{statement}
 use Rattle.resolution.proofs.resolve.target_of.Tie as tie
 use Rattle.resolution.proofs.resolve.target_of.Reads as reads
 use Rattle.resolution.proofs.resolve.target_of.Lts as lts
-use Rattle.closing.proofs.marks.find_label.Reads as find-label-reads
+use Rattle.labels.proofs.marks.find_label.Reads as find-label-reads
 
 -- src/resolve.rt:49:9
 returns : tie.Need-returns

@@ -5,13 +5,13 @@ use mathlib.Core.List.{List}
 use Prim.Native.Nat.{_+_, _*_, _-_, _/_, _%_, _≤_}
 use lib.ListN.{length, getD, length-set}
 use Rattle.recorder.specs.Marks.{Mark}
-use Rattle.closing.specs.MarksIn.{MarksIn}
-use Rattle.closing.specs.Chains.{Chained}
-use Rattle.closing.proofs.MarkLaws.{index-none, index-start, index-step, index-end, chain-place}
-use Rattle.closing.proofs.marks.index_lines.Statement.{statement}
-use Rattle.closing.proofs.marks.index_lines.Tie as tie
-use Rattle.closing.proofs.marks.index_lines.Reads as reads
-use Rattle.closing.proofs.marks.index_lines.Lts as lts
+use Rattle.labels.specs.MarksIn.{MarksIn}
+use Rattle.labels.specs.Chains.{Chained}
+use Rattle.labels.proofs.MarkLaws.{index-none, index-start, index-step, index-end, chain-place}
+use Rattle.labels.proofs.marks.index_lines.Statement.{statement}
+use Rattle.labels.proofs.marks.index_lines.Tie as tie
+use Rattle.labels.proofs.marks.index_lines.Reads as reads
+use Rattle.labels.proofs.marks.index_lines.Lts as lts
 use Rattle.recorder.proofs.codegen.least.Reads as least-reads
 
 abbrev Inv-loop : tie.InvT-loop

@@ -6,14 +6,14 @@ use lib.ListN.{length, getD, set, take}
 use native.Mathlib.Numerals.{sub-one}
 use native.Mathlib.Nat.{mod-lt}
 use native.Mathlib.Omega.{arith}
-use Rattle.closing.specs.declared.marks.Target.the-variants.{At, Nowhere}
-use Rattle.closing.specs.declared.marks.Start.the-variants.{From, NoData}
+use Rattle.labels.specs.declared.marks.Target.the-variants.{At, Nowhere}
+use Rattle.labels.specs.declared.marks.Start.the-variants.{From, NoData}
 use Rattle.recorder.specs.Ideal.{Search, found}
 use Rattle.recorder.specs.Marks.{Mark, addrOf, datumFrom, dataOf}
-use Rattle.closing.specs.MarkWords.{targetFound, startFound}
-use Rattle.closing.specs.MarksIn.{MarksIn}
-use Rattle.closing.specs.Chains.{lineOf, labelOf, lastIn, Chained, earlierDatum}
-use Rattle.closing.proofs.MarkSearch.{chain-start, chain-step, last-within, or-missing, dataOr, addrs, addrs-skip, data-skip, Seeking, seek-head, seek-link, word-label, word-link, addr-here, addr-past, data-past}
+use Rattle.labels.specs.MarkWords.{targetFound, startFound}
+use Rattle.labels.specs.MarksIn.{MarksIn}
+use Rattle.labels.specs.Chains.{lineOf, labelOf, lastIn, Chained, earlierDatum}
+use Rattle.labels.proofs.MarkSearch.{chain-start, chain-step, last-within, or-missing, dataOr, addrs, addrs-skip, data-skip, Seeking, seek-head, seek-link, word-label, word-link, addr-here, addr-past, data-past}
 
 -- the chains: none yet, one line more, all
 module _ (w : List ℕ) (n m : ℕ) (e : m ≡ min n (length w / 3)) where

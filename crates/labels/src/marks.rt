@@ -10,9 +10,9 @@ ghost use mathlib.Core.List.{List};
 ghost use Prim.Native.Nat.{_%_};
 ghost use lib.ListN.{length};
 ghost use Rattle.recorder.specs.Marks.{Mark, addrOf, dataOf};
-ghost use Rattle.closing.specs.MarkWords.{markList, markCount, markedLines, targetFound, startFound};
-ghost use Rattle.closing.specs.MarksIn.{MarksIn};
-ghost use Rattle.closing.specs.Chains.{lastIn, Chained, chainCount, earlierDatum};
+ghost use Rattle.labels.specs.MarkWords.{markList, markCount, markedLines, targetFound, startFound};
+ghost use Rattle.labels.specs.MarksIn.{MarksIn};
+ghost use Rattle.labels.specs.Chains.{lastIn, Chained, chainCount, earlierDatum};
 
 // A target: the address of a line, or the label is nowhere.
 pub enum Target {

@@ -3,14 +3,14 @@ use native.Mathlib.Omega.{arith}
 use mathlib.Core.List.{List}
 use Prim.Native.Nat.{_≤_}
 use Rattle.recorder.specs.Marks.{Mark, addrOf}
-use Rattle.closing.specs.Chains.{Chained}
-use Rattle.closing.proofs.MarkSearch.{addrs, Seeking}
-use Rattle.closing.proofs.MarkLaws.{target-start, target-link, target-here, target-low, target-none}
-use Rattle.closing.proofs.marks.find_label.Statement.{statement}
-use Rattle.closing.proofs.marks.find_label.Tie as tie
-use Rattle.closing.proofs.marks.find_label.Reads as reads
-use Rattle.closing.proofs.marks.find_label.Lts as lts
-use Rattle.closing.proofs.marks.head_of.Reads as head-of-reads
+use Rattle.labels.specs.Chains.{Chained}
+use Rattle.labels.proofs.MarkSearch.{addrs, Seeking}
+use Rattle.labels.proofs.MarkLaws.{target-start, target-link, target-here, target-low, target-none}
+use Rattle.labels.proofs.marks.find_label.Statement.{statement}
+use Rattle.labels.proofs.marks.find_label.Tie as tie
+use Rattle.labels.proofs.marks.find_label.Reads as reads
+use Rattle.labels.proofs.marks.find_label.Lts as lts
+use Rattle.labels.proofs.marks.head_of.Reads as head-of-reads
 use Rattle.recorder.proofs.word.word_at.Reads as word-at-reads
 
 abbrev Inv-loop : tie.InvT-loop

@@ -17,9 +17,9 @@ use Rattle.recorder.specs.Ideal.{Search, missing, found}
 use Rattle.recorder.specs.Layout.{wordsOf, fill}
 use Rattle.recorder.specs.Marks.{Mark, mark, orElse, addrOf, datumFrom, dataOf}
 use Rattle.recorder.proofs.Bools.{both-left, both-right}
-use Rattle.closing.specs.MarkWords.{markWords, markList, markCount}
-use Rattle.closing.specs.MarksIn.{narrow, MarksIn}
-use Rattle.closing.specs.Chains.{lineOf, labelOf, lastIn, linkOf, Chained}
+use Rattle.labels.specs.MarkWords.{markWords, markList, markCount}
+use Rattle.labels.specs.MarksIn.{narrow, MarksIn}
+use Rattle.labels.specs.Chains.{lineOf, labelOf, lastIn, linkOf, Chained}
 
 length-marks : (ms : List Mark) → length (wordsOf markWords ms) ≡ 3 * length ms
 length-marks [] = refl

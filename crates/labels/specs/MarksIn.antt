@@ -8,7 +8,7 @@ use lib.ListN.{length}
 use Rattle.recorder.specs.Word.{both}
 use Rattle.recorder.specs.Layout.{wordsOf, fill}
 use Rattle.recorder.specs.Marks.{Mark}
-use Rattle.closing.specs.MarkWords.{markWords}
+use Rattle.labels.specs.MarkWords.{markWords}
 
 -- every label has 16 bits
 unfoldable pub narrow : List Mark → Bool

@@ -7,7 +7,7 @@ use lib.Dec.{ltb, eqb}
 use lib.ListN.{length, getD}
 use Rattle.recorder.specs.Word.{pick}
 use Rattle.recorder.specs.Marks.{Mark, mark}
-use Rattle.closing.specs.MarksIn.{narrow}
+use Rattle.labels.specs.MarksIn.{narrow}
 
 -- the line k, and its label
 abbrev pub lineOf : List Mark → ℕ → Mark

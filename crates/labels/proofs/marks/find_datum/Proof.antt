@@ -3,15 +3,15 @@ use native.Mathlib.Omega.{arith}
 use mathlib.Core.List.{List}
 use Prim.Native.Nat.{_≤_}
 use Rattle.recorder.specs.Marks.{Mark, dataOf}
-use Rattle.closing.specs.Chains.{Chained}
-use Rattle.closing.proofs.MarkSearch.{dataOr, Seeking}
-use Rattle.closing.proofs.MarkLaws.{datum-start, datum-link, datum-low, datum-none, datum-found}
-use Rattle.closing.proofs.marks.find_datum.Statement.{statement}
-use Rattle.closing.proofs.marks.find_datum.Tie as tie
-use Rattle.closing.proofs.marks.find_datum.Reads as reads
-use Rattle.closing.proofs.marks.find_datum.Lts as lts
-use Rattle.closing.proofs.marks.earlier_datum.Reads as earlier-datum-reads
-use Rattle.closing.proofs.marks.head_of.Reads as head-of-reads
+use Rattle.labels.specs.Chains.{Chained}
+use Rattle.labels.proofs.MarkSearch.{dataOr, Seeking}
+use Rattle.labels.proofs.MarkLaws.{datum-start, datum-link, datum-low, datum-none, datum-found}
+use Rattle.labels.proofs.marks.find_datum.Statement.{statement}
+use Rattle.labels.proofs.marks.find_datum.Tie as tie
+use Rattle.labels.proofs.marks.find_datum.Reads as reads
+use Rattle.labels.proofs.marks.find_datum.Lts as lts
+use Rattle.labels.proofs.marks.earlier_datum.Reads as earlier-datum-reads
+use Rattle.labels.proofs.marks.head_of.Reads as head-of-reads
 use Rattle.recorder.proofs.word.word_at.Reads as word-at-reads
 
 abbrev Inv-loop : tie.InvT-loop

@@ -1,12 +1,12 @@
 use borrow.Author.Tests.{le-ltb, lt-ltb}
 use native.Mathlib.Omega.{arith}
 use lib.ListN.{length-set}
-use Rattle.closing.specs.MarkWords.{markList, markCount}
+use Rattle.labels.specs.MarkWords.{markList, markCount}
 use borrow.Author.Needs.{needs}
-use Rattle.closing.proofs.marks.put_mark.Statement.{statement}
-use Rattle.closing.proofs.marks.put_mark.Tie as tie
-use Rattle.closing.proofs.marks.put_mark.Reads as reads
-use Rattle.closing.proofs.marks.put_mark.Lts as lts
+use Rattle.labels.proofs.marks.put_mark.Statement.{statement}
+use Rattle.labels.proofs.marks.put_mark.Tie as tie
+use Rattle.labels.proofs.marks.put_mark.Reads as reads
+use Rattle.labels.proofs.marks.put_mark.Lts as lts
 
 -- src/marks.rt:27:13
 cast-l : tie.Need-cast-l

@@ -1,10 +1,10 @@
 use native.Mathlib.Omega.{arith}
-use Rattle.closing.proofs.MarkLaws.{head-is, chain-place}
+use Rattle.labels.proofs.MarkLaws.{head-is, chain-place}
 use borrow.Author.Needs.{needs}
-use Rattle.closing.proofs.marks.head_of.Statement.{statement}
-use Rattle.closing.proofs.marks.head_of.Tie as tie
-use Rattle.closing.proofs.marks.head_of.Reads as reads
-use Rattle.closing.proofs.marks.head_of.Lts as lts
+use Rattle.labels.proofs.marks.head_of.Statement.{statement}
+use Rattle.labels.proofs.marks.head_of.Tie as tie
+use Rattle.labels.proofs.marks.head_of.Reads as reads
+use Rattle.labels.proofs.marks.head_of.Lts as lts
 use Rattle.recorder.proofs.codegen.least.Reads as least-reads
 use Rattle.recorder.proofs.word.word_at.Reads as word-at-reads
 

@@ -3,10 +3,10 @@ use mathlib.Core.List.{List, [], _∷_}
 use Prim.Native.Nat.{ℕ, _+_, _*_, _/_, min}
 use lib.Dec.{ltb}
 use lib.ListN.{length, set}
-use Rattle.closing.specs.declared.marks.Target.{Target}
-use Rattle.closing.specs.declared.marks.Target.the-variants.{At, Nowhere}
-use Rattle.closing.specs.declared.marks.Start.{Start}
-use Rattle.closing.specs.declared.marks.Start.the-variants.{From, NoData}
+use Rattle.labels.specs.declared.marks.Target.{Target}
+use Rattle.labels.specs.declared.marks.Target.the-variants.{At, Nowhere}
+use Rattle.labels.specs.declared.marks.Start.{Start}
+use Rattle.labels.specs.declared.marks.Start.the-variants.{From, NoData}
 use Rattle.recorder.specs.Word.{pick}
 use Rattle.recorder.specs.Ideal.{Search, missing, found}
 use Rattle.recorder.specs.Marks.{Mark}

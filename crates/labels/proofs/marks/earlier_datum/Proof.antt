@@ -1,10 +1,10 @@
 use borrow.Author.Tests.{eq-eqb, ne-eqb}
-use Rattle.closing.specs.Chains.{earlierDatum}
+use Rattle.labels.specs.Chains.{earlierDatum}
 use borrow.Author.Needs.{needs}
-use Rattle.closing.proofs.marks.earlier_datum.Statement.{statement}
-use Rattle.closing.proofs.marks.earlier_datum.Tie as tie
-use Rattle.closing.proofs.marks.earlier_datum.Reads as reads
-use Rattle.closing.proofs.marks.earlier_datum.Lts as lts
+use Rattle.labels.proofs.marks.earlier_datum.Statement.{statement}
+use Rattle.labels.proofs.marks.earlier_datum.Tie as tie
+use Rattle.labels.proofs.marks.earlier_datum.Reads as reads
+use Rattle.labels.proofs.marks.earlier_datum.Lts as lts
 use Rattle.recorder.proofs.word.word_at.Reads as word-at-reads
 
 -- src/marks.rt:109:14
