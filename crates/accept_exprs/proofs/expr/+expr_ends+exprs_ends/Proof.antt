@@ -53,7 +53,7 @@ abbrev exprs-ends-below : ℕ → In 4 exprs-ends-kinds.ps
 exprs-ends-below t =
     and 4 exprs-ends-kinds.ps (falls 4 exprs-ends-kinds.ps _<_ μ-exprs-ends t) exprs-ends.Pre
 
--- src/quick.rt:166:9
+-- src/expr.rt:54:9
 expr-ends-head-ends-requires : (t : ℕ) → expr-ends-lts.Need-head-ends-requires (
   head-ends-reads.Asked,
   head-ends-reads.Learnt,
@@ -74,7 +74,7 @@ expr-ends-head-ends-requires : (t : ℕ) → expr-ends-lts.Need-head-ends-requir
 ) (expr-ends-at t) expr-ends.Post
 expr-ends-head-ends-requires t c κs = search needs
 
--- src/quick.rt:168:9
+-- src/expr.rt:56:9
 expr-ends-returns : (t : ℕ) → expr-ends-lts.Need-returns (
   head-ends-reads.Asked,
   head-ends-reads.Learnt,
@@ -95,7 +95,7 @@ expr-ends-returns : (t : ℕ) → expr-ends-lts.Need-returns (
 ) (expr-ends-at t) expr-ends.Post
 expr-ends-returns t c = head-stops (c .before .before .before .args .sheet .now .now) (c .before .before .before .args .text .now .now) (lineFrom (c .before .before .before .args .base) (c .before .before .before .args .len)) _ _ _ _ (c .before .head-ends .ensures) (c .if1 .taken)
 
--- src/quick.rt:171:9
+-- src/expr.rt:59:9
 expr-ends-returns-2 : (t : ℕ) → expr-ends-lts.Need-returns-2 (
   head-ends-reads.Asked,
   head-ends-reads.Learnt,
@@ -116,7 +116,7 @@ expr-ends-returns-2 : (t : ℕ) → expr-ends-lts.Need-returns-2 (
 ) (expr-ends-at t) expr-ends.Post
 expr-ends-returns-2 t c = depth-stops (c .before .before .before .before .args .sheet .now .now) (c .before .before .before .before .args .text .now .now) (lineFrom (c .before .before .before .before .args .base) (c .before .before .before .before .args .len)) _ _ _ _ (c .before .before .head-ends .ensures) (c .before .if1 .left) (c .if2 .taken)
 
--- src/quick.rt:173:9
+-- src/expr.rt:61:9
 expr-ends-payload-at-requires : (t : ℕ) → expr-ends-lts.Need-payload-at-requires (
   head-ends-reads.Asked,
   head-ends-reads.Learnt,
@@ -137,7 +137,7 @@ expr-ends-payload-at-requires : (t : ℕ) → expr-ends-lts.Need-payload-at-requ
 ) (expr-ends-at t) expr-ends.Post
 expr-ends-payload-at-requires t c κs = search needs
 
--- src/quick.rt:174:9
+-- src/expr.rt:62:9
 expr-ends-own-ends-requires : (t : ℕ) → expr-ends-lts.Need-own-ends-requires (
   head-ends-reads.Asked,
   head-ends-reads.Learnt,
@@ -158,7 +158,7 @@ expr-ends-own-ends-requires : (t : ℕ) → expr-ends-lts.Need-own-ends-requires
 ) (expr-ends-at t) expr-ends.Post
 expr-ends-own-ends-requires t c κs = search needs
 
--- src/quick.rt:176:9
+-- src/expr.rt:64:9
 expr-ends-returns-3 : (t : ℕ) → expr-ends-lts.Need-returns-3 (
   head-ends-reads.Asked,
   head-ends-reads.Learnt,
@@ -179,7 +179,7 @@ expr-ends-returns-3 : (t : ℕ) → expr-ends-lts.Need-returns-3 (
 ) (expr-ends-at t) expr-ends.Post
 expr-ends-returns-3 t c = expr-own-stops (c .before .before .before .before .before .before .before .before .before .before .args .sheet .now .now) (c .before .before .before .before .before .before .before .before .before .before .args .text .now .now) (lineFrom (c .before .before .before .before .before .before .before .before .before .before .args .base) (c .before .before .before .before .before .before .before .before .before .before .args .len)) _ _ _ _ _ (c .before .before .before .before .before .before .before .before .head-ends .ensures) (c .before .before .before .before .before .before .before .if1 .left) (c .before .before .before .before .before .before .if2 .left) (c .before .before .before .before .payload-at .ensures) (c .before .own-ends .ensures) (c .if3 .taken)
 
--- src/quick.rt:179:14
+-- src/expr.rt:67:14
 expr-ends-number-ends-requires : (t : ℕ) → expr-ends-lts.Need-number-ends-requires (
   head-ends-reads.Asked,
   head-ends-reads.Learnt,
@@ -200,7 +200,7 @@ expr-ends-number-ends-requires : (t : ℕ) → expr-ends-lts.Need-number-ends-re
 ) (expr-ends-at t) expr-ends.Post
 expr-ends-number-ends-requires t c κs = search needs
 
--- src/quick.rt:181:17
+-- src/expr.rt:69:17
 expr-ends-operator-ends-requires : (t : ℕ) → expr-ends-lts.Need-operator-ends-requires (
   head-ends-reads.Asked,
   head-ends-reads.Learnt,
@@ -221,7 +221,7 @@ expr-ends-operator-ends-requires : (t : ℕ) → expr-ends-lts.Need-operator-end
 ) (expr-ends-at t) expr-ends.Post
 expr-ends-operator-ends-requires t c κs = search needs
 
--- src/quick.rt:183:17
+-- src/expr.rt:71:17
 expr-ends-returns-4 : (t : ℕ) → expr-ends-lts.Need-returns-4 (
   head-ends-reads.Asked,
   head-ends-reads.Learnt,
@@ -243,7 +243,7 @@ expr-ends-returns-4 : (t : ℕ) → expr-ends-lts.Need-returns-4 (
 unfolding exprFields
 expr-ends-returns-4 t c = expr-fields (c .before .before .before .before .before .before .before .before .before .before .before .before .before .before .args .sheet .now .now) (c .before .before .before .before .before .before .before .before .before .before .before .before .before .before .args .text .now .now) (lineFrom (c .before .before .before .before .before .before .before .before .before .before .before .before .before .before .args .base) (c .before .before .before .before .before .before .before .before .before .before .before .before .before .before .args .len)) _ _ _ _ _ _ _ (c .before .before .before .before .before .before .before .before .before .before .before .before .head-ends .ensures) (c .before .before .before .before .before .before .before .before .before .before .before .if1 .left) (c .before .before .before .before .before .before .before .before .before .before .if2 .left) (c .before .before .before .before .before .before .before .before .payload-at .ensures) (c .before .before .before .before .before .own-ends .ensures) (c .before .before .before .before .if3 .left) (c .before .before .before .match .keys2) (operator-stop _ _ _ _ _ _ _ _ (c .before .operator-ends .ensures) (c .if4 .taken))
 
--- src/quick.rt:185:48
+-- src/expr.rt:73:48
 expr-ends-sub-exprs-ends : (t : ℕ) → expr-ends-lts.Need-sub-exprs-ends (
   head-ends-reads.Asked,
   head-ends-reads.Learnt,
@@ -264,7 +264,7 @@ expr-ends-sub-exprs-ends : (t : ℕ) → expr-ends-lts.Need-sub-exprs-ends (
 ) (expr-ends-at t) expr-ends.Post
 expr-ends-sub-exprs-ends t c = search needs
 
--- src/quick.rt:185:13
+-- src/expr.rt:73:13
 expr-ends-exprs-ends-requires : (t : ℕ) → expr-ends-lts.Need-exprs-ends-requires (
   head-ends-reads.Asked,
   head-ends-reads.Learnt,
@@ -285,7 +285,7 @@ expr-ends-exprs-ends-requires : (t : ℕ) → expr-ends-lts.Need-exprs-ends-requ
 ) (expr-ends-at t) expr-ends.Post
 expr-ends-exprs-ends-requires t c κs = omega (arith, (c .before .before .before .before .before .before .before .before .before .before .before .before .before .before .pre .0), (head-moves (c .before .before .before .before .before .before .before .before .before .before .before .before .before .before .args .sheet .now .now) Expr (c .before .before .before .before .before .before .before .before .before .before .before .before .before .before .args .at) _ _ refl ((c .before .before .before .before .before .before .before .before .before .before .before .before .head-ends .ensures .0) (c .before .before .before .before .before .before .before .before .before .before .before .if1 .left))) .0, (head-moves (c .before .before .before .before .before .before .before .before .before .before .before .before .before .before .args .sheet .now .now) Expr (c .before .before .before .before .before .before .before .before .before .before .before .before .before .before .args .at) _ _ refl ((c .before .before .before .before .before .before .before .before .before .before .before .before .head-ends .ensures .0) (c .before .before .before .before .before .before .before .before .before .before .before .if1 .left))) .1, (reach-later (c .before .before .before .before .before .before .before .before .before .before .before .before .before .before .args .sheet .now .now) _ _ _ (item-step (c .before .before .before .before .before .before .before .before .before .before .before .before .before .before .args .sheet .now .now) (c .before .before .before .before .before .before .before .before .before .before .before .before .before .before .args .text .now .now) (lineFrom (c .before .before .before .before .before .before .before .before .before .before .before .before .before .before .args .base) (c .before .before .before .before .before .before .before .before .before .before .before .before .before .before .args .len)) (nodeForm (c .before .before .before .before .before .before .before .before .before .before .before .before .before .before .args .sheet .now .now) (c .before .before .before .before .before .before .before .before .before .before .before .before .before .before .args .text .now .now) (lineFrom (c .before .before .before .before .before .before .before .before .before .before .before .before .before .before .args .base) (c .before .before .before .before .before .before .before .before .before .before .before .before .before .before .args .len)) 0) (node-step (c .before .before .before .before .before .before .before .before .before .before .before .before .before .before .args .sheet .now .now) (c .before .before .before .before .before .before .before .before .before .before .before .before .before .before .args .text .now .now) (lineFrom (c .before .before .before .before .before .before .before .before .before .before .before .before .before .before .args .base) (c .before .before .before .before .before .before .before .before .before .before .before .before .before .before .args .len)) 0) (ownRange Expr (c .before .before .before .before .before .before .before .before .payload-at .result)) (c .before .before .before .before .before .before .before .before .before .before .before .before .head-ends .result)) (c .before .before .before .before .before .own-ends .ensures) (c .before .before .before .before .if3 .left)), reach-later (c .before .before .before .before .before .before .before .before .before .before .before .before .before .before .args .sheet .now .now) _ _ _ (then-ends (c .before .before .before .before .before .before .before .before .before .before .before .before .before .before .args .sheet .now .now) (c .before .before .before .before .before .own-ends .result) _ _ (range-step (c .before .before .before .before .before .before .before .before .before .before .before .before .before .before .args .sheet .now .now) (lineFrom (c .before .before .before .before .before .before .before .before .before .before .before .before .before .before .args .base) (c .before .before .before .before .before .before .before .before .before .before .before .before .before .before .args .len)) (c .before .before .before .before .before .own-ends .result)) (λ r. word-step (c .before .before .before .before .before .before .before .before .before .before .before .before .before .before .args .sheet .now .now) 9 34 r)) (c .before .operator-ends .ensures) (c .if4 .left))
 
--- src/quick.rt:188:17
+-- src/expr.rt:76:17
 expr-ends-optional-name-ends-requires : (t : ℕ) → expr-ends-lts.Need-optional-name-ends-requires (
   head-ends-reads.Asked,
   head-ends-reads.Learnt,
@@ -306,7 +306,7 @@ expr-ends-optional-name-ends-requires : (t : ℕ) → expr-ends-lts.Need-optiona
 ) (expr-ends-at t) expr-ends.Post
 expr-ends-optional-name-ends-requires t c κs = search needs
 
--- src/quick.rt:190:17
+-- src/expr.rt:78:17
 expr-ends-returns-5 : (t : ℕ) → expr-ends-lts.Need-returns-5 (
   head-ends-reads.Asked,
   head-ends-reads.Learnt,
@@ -328,7 +328,7 @@ expr-ends-returns-5 : (t : ℕ) → expr-ends-lts.Need-returns-5 (
 unfolding exprFields itemForm
 expr-ends-returns-5 t c = expr-fields (c .before .before .before .before .before .before .before .before .before .before .before .before .before .before .before .args .sheet .now .now) (c .before .before .before .before .before .before .before .before .before .before .before .before .before .before .before .args .text .now .now) (lineFrom (c .before .before .before .before .before .before .before .before .before .before .before .before .before .before .before .args .base) (c .before .before .before .before .before .before .before .before .before .before .before .before .before .before .before .args .len)) _ _ _ _ _ _ _ (c .before .before .before .before .before .before .before .before .before .before .before .before .before .head-ends .ensures) (c .before .before .before .before .before .before .before .before .before .before .before .before .if1 .left) (c .before .before .before .before .before .before .before .before .before .before .before .if2 .left) (c .before .before .before .before .before .before .before .before .before .payload-at .ensures) (c .before .before .before .before .before .before .own-ends .ensures) (c .before .before .before .before .before .if3 .left) (c .before .before .before .before .match .keys3) (one-stop _ _ _ _ _ _ _ _ (c .before .optional-name-ends .ensures) (c .if5 .taken))
 
--- src/quick.rt:192:47
+-- src/expr.rt:80:47
 expr-ends-sub-expr-ends : (t : ℕ) → expr-ends-lts.Need-sub-expr-ends (
   head-ends-reads.Asked,
   head-ends-reads.Learnt,
@@ -349,7 +349,7 @@ expr-ends-sub-expr-ends : (t : ℕ) → expr-ends-lts.Need-sub-expr-ends (
 ) (expr-ends-at t) expr-ends.Post
 expr-ends-sub-expr-ends t c = search needs
 
--- src/quick.rt:192:13
+-- src/expr.rt:80:13
 expr-ends-expr-ends-requires : (t : ℕ) → expr-ends-lts.Need-expr-ends-requires (
   head-ends-reads.Asked,
   head-ends-reads.Learnt,
@@ -370,7 +370,7 @@ expr-ends-expr-ends-requires : (t : ℕ) → expr-ends-lts.Need-expr-ends-requir
 ) (expr-ends-at t) expr-ends.Post
 expr-ends-expr-ends-requires t c κs = omega (arith, (c .before .before .before .before .before .before .before .before .before .before .before .before .before .before .before .pre .0), (head-moves (c .before .before .before .before .before .before .before .before .before .before .before .before .before .before .before .args .sheet .now .now) Expr (c .before .before .before .before .before .before .before .before .before .before .before .before .before .before .before .args .at) _ _ refl ((c .before .before .before .before .before .before .before .before .before .before .before .before .before .head-ends .ensures .0) (c .before .before .before .before .before .before .before .before .before .before .before .before .if1 .left))) .0, (head-moves (c .before .before .before .before .before .before .before .before .before .before .before .before .before .before .before .args .sheet .now .now) Expr (c .before .before .before .before .before .before .before .before .before .before .before .before .before .before .before .args .at) _ _ refl ((c .before .before .before .before .before .before .before .before .before .before .before .before .before .head-ends .ensures .0) (c .before .before .before .before .before .before .before .before .before .before .before .before .if1 .left))) .1, (reach-later (c .before .before .before .before .before .before .before .before .before .before .before .before .before .before .before .args .sheet .now .now) _ _ _ (item-step (c .before .before .before .before .before .before .before .before .before .before .before .before .before .before .before .args .sheet .now .now) (c .before .before .before .before .before .before .before .before .before .before .before .before .before .before .before .args .text .now .now) (lineFrom (c .before .before .before .before .before .before .before .before .before .before .before .before .before .before .before .args .base) (c .before .before .before .before .before .before .before .before .before .before .before .before .before .before .before .args .len)) (nodeForm (c .before .before .before .before .before .before .before .before .before .before .before .before .before .before .before .args .sheet .now .now) (c .before .before .before .before .before .before .before .before .before .before .before .before .before .before .before .args .text .now .now) (lineFrom (c .before .before .before .before .before .before .before .before .before .before .before .before .before .before .before .args .base) (c .before .before .before .before .before .before .before .before .before .before .before .before .before .before .before .args .len)) 0) (node-step (c .before .before .before .before .before .before .before .before .before .before .before .before .before .before .before .args .sheet .now .now) (c .before .before .before .before .before .before .before .before .before .before .before .before .before .before .before .args .text .now .now) (lineFrom (c .before .before .before .before .before .before .before .before .before .before .before .before .before .before .before .args .base) (c .before .before .before .before .before .before .before .before .before .before .before .before .before .before .before .args .len)) 0) (ownRange Expr (c .before .before .before .before .before .before .before .before .before .payload-at .result)) (c .before .before .before .before .before .before .before .before .before .before .before .before .before .head-ends .result)) (c .before .before .before .before .before .before .own-ends .ensures) (c .before .before .before .before .before .if3 .left)), reach-later (c .before .before .before .before .before .before .before .before .before .before .before .before .before .before .before .args .sheet .now .now) _ _ _ (absent-or (c .before .before .before .before .before .before .before .before .before .before .before .before .before .before .before .args .sheet .now .now) (c .before .before .before .before .before .before .own-ends .result) (nameForm (c .before .before .before .before .before .before .before .before .before .before .before .before .before .before .before .args .sheet .now .now) (c .before .before .before .before .before .before .before .before .before .before .before .before .before .before .before .args .text .now .now) (lineFrom (c .before .before .before .before .before .before .before .before .before .before .before .before .before .before .before .args .base) (c .before .before .before .before .before .before .before .before .before .before .before .before .before .before .before .args .len))) (name-step (c .before .before .before .before .before .before .before .before .before .before .before .before .before .before .before .args .sheet .now .now) (c .before .before .before .before .before .before .before .before .before .before .before .before .before .before .before .args .text .now .now) (lineFrom (c .before .before .before .before .before .before .before .before .before .before .before .before .before .before .before .args .base) (c .before .before .before .before .before .before .before .before .before .before .before .before .before .before .before .args .len)) (c .before .before .before .before .before .before .own-ends .result))) (c .before .optional-name-ends .ensures) (c .if5 .left))
 
--- src/quick.rt:195:55
+-- src/expr.rt:83:55
 expr-ends-sub-expr-ends-2 : (t : ℕ) → expr-ends-lts.Need-sub-expr-ends-2 (
   head-ends-reads.Asked,
   head-ends-reads.Learnt,
@@ -391,7 +391,7 @@ expr-ends-sub-expr-ends-2 : (t : ℕ) → expr-ends-lts.Need-sub-expr-ends-2 (
 ) (expr-ends-at t) expr-ends.Post
 expr-ends-sub-expr-ends-2 t c = search needs
 
--- src/quick.rt:195:17
+-- src/expr.rt:83:17
 expr-ends-expr-ends-requires-2 : (t : ℕ) → expr-ends-lts.Need-expr-ends-requires-2 (
   head-ends-reads.Asked,
   head-ends-reads.Learnt,
@@ -412,7 +412,7 @@ expr-ends-expr-ends-requires-2 : (t : ℕ) → expr-ends-lts.Need-expr-ends-requ
 ) (expr-ends-at t) expr-ends.Post
 expr-ends-expr-ends-requires-2 t c κs = omega (arith, (c .before .before .before .before .before .before .before .before .before .before .before .pre .0), (head-moves (c .before .before .before .before .before .before .before .before .before .before .before .args .sheet .now .now) Expr (c .before .before .before .before .before .before .before .before .before .before .before .args .at) _ _ refl ((c .before .before .before .before .before .before .before .before .before .head-ends .ensures .0) (c .before .before .before .before .before .before .before .before .if1 .left))) .0, (head-moves (c .before .before .before .before .before .before .before .before .before .before .before .args .sheet .now .now) Expr (c .before .before .before .before .before .before .before .before .before .before .before .args .at) _ _ refl ((c .before .before .before .before .before .before .before .before .before .head-ends .ensures .0) (c .before .before .before .before .before .before .before .before .if1 .left))) .1, (reach-later (c .before .before .before .before .before .before .before .before .before .before .before .args .sheet .now .now) _ _ _ (item-step (c .before .before .before .before .before .before .before .before .before .before .before .args .sheet .now .now) (c .before .before .before .before .before .before .before .before .before .before .before .args .text .now .now) (lineFrom (c .before .before .before .before .before .before .before .before .before .before .before .args .base) (c .before .before .before .before .before .before .before .before .before .before .before .args .len)) (nodeForm (c .before .before .before .before .before .before .before .before .before .before .before .args .sheet .now .now) (c .before .before .before .before .before .before .before .before .before .before .before .args .text .now .now) (lineFrom (c .before .before .before .before .before .before .before .before .before .before .before .args .base) (c .before .before .before .before .before .before .before .before .before .before .before .args .len)) 0) (node-step (c .before .before .before .before .before .before .before .before .before .before .before .args .sheet .now .now) (c .before .before .before .before .before .before .before .before .before .before .before .args .text .now .now) (lineFrom (c .before .before .before .before .before .before .before .before .before .before .before .args .base) (c .before .before .before .before .before .before .before .before .before .before .before .args .len)) 0) (ownRange Expr (c .before .before .before .before .before .payload-at .result)) (c .before .before .before .before .before .before .before .before .before .head-ends .result)) (c .before .before .own-ends .ensures) (c .before .if3 .left)))
 
--- src/quick.rt:197:17
+-- src/expr.rt:85:17
 expr-ends-returns-6 : (t : ℕ) → expr-ends-lts.Need-returns-6 (
   head-ends-reads.Asked,
   head-ends-reads.Learnt,
@@ -434,7 +434,7 @@ expr-ends-returns-6 : (t : ℕ) → expr-ends-lts.Need-returns-6 (
 unfolding exprFields itemForm
 expr-ends-returns-6 t c = expr-fields (c .before .before .before .before .before .before .before .before .before .before .before .before .before .args .sheet .now .now) (c .before .before .before .before .before .before .before .before .before .before .before .before .before .args .text .now .now) (lineFrom (c .before .before .before .before .before .before .before .before .before .before .before .before .before .args .base) (c .before .before .before .before .before .before .before .before .before .before .before .before .before .args .len)) _ _ _ _ _ _ _ (c .before .before .before .before .before .before .before .before .before .before .before .head-ends .ensures) (c .before .before .before .before .before .before .before .before .before .before .if1 .left) (c .before .before .before .before .before .before .before .before .before .if2 .left) (c .before .before .before .before .before .before .before .payload-at .ensures) (c .before .before .before .before .own-ends .ensures) (c .before .before .before .if3 .left) (c .before .before .match .keys4) (one-stop _ _ _ _ _ _ _ _ (c .before .expr-ends2 .ensures) (c .if6 .taken))
 
--- src/quick.rt:199:17
+-- src/expr.rt:87:17
 expr-ends-operator-ends-requires-2 : (t : ℕ) → expr-ends-lts.Need-operator-ends-requires-2 (
   head-ends-reads.Asked,
   head-ends-reads.Learnt,
@@ -455,7 +455,7 @@ expr-ends-operator-ends-requires-2 : (t : ℕ) → expr-ends-lts.Need-operator-e
 ) (expr-ends-at t) expr-ends.Post
 expr-ends-operator-ends-requires-2 t c κs = search needs
 
--- src/quick.rt:201:17
+-- src/expr.rt:89:17
 expr-ends-returns-7 : (t : ℕ) → expr-ends-lts.Need-returns-7 (
   head-ends-reads.Asked,
   head-ends-reads.Learnt,
@@ -477,7 +477,7 @@ expr-ends-returns-7 : (t : ℕ) → expr-ends-lts.Need-returns-7 (
 unfolding exprFields itemForm
 expr-ends-returns-7 t c = expr-fields (c .before .before .before .before .before .before .before .before .before .before .before .before .before .before .before .before .args .sheet .now .now) (c .before .before .before .before .before .before .before .before .before .before .before .before .before .before .before .before .args .text .now .now) (lineFrom (c .before .before .before .before .before .before .before .before .before .before .before .before .before .before .before .before .args .base) (c .before .before .before .before .before .before .before .before .before .before .before .before .before .before .before .before .args .len)) _ _ _ _ _ _ _ (c .before .before .before .before .before .before .before .before .before .before .before .before .before .before .head-ends .ensures) (c .before .before .before .before .before .before .before .before .before .before .before .before .before .if1 .left) (c .before .before .before .before .before .before .before .before .before .before .before .before .if2 .left) (c .before .before .before .before .before .before .before .before .before .before .payload-at .ensures) (c .before .before .before .before .before .before .before .own-ends .ensures) (c .before .before .before .before .before .before .if3 .left) (c .before .before .before .before .before .match .keys4) (one-go _ _ _ _ _ _ _ _ _ (c .before .before .before .before .expr-ends2 .ensures) (c .before .before .before .if6 .left) (operator-stop _ _ _ _ _ _ _ _ (c .before .operator-ends2 .ensures) (c .if7 .taken)))
 
--- src/quick.rt:203:47
+-- src/expr.rt:91:47
 expr-ends-sub-expr-ends-3 : (t : ℕ) → expr-ends-lts.Need-sub-expr-ends-3 (
   head-ends-reads.Asked,
   head-ends-reads.Learnt,
@@ -498,7 +498,7 @@ expr-ends-sub-expr-ends-3 : (t : ℕ) → expr-ends-lts.Need-sub-expr-ends-3 (
 ) (expr-ends-at t) expr-ends.Post
 expr-ends-sub-expr-ends-3 t c = search needs
 
--- src/quick.rt:203:13
+-- src/expr.rt:91:13
 expr-ends-expr-ends-requires-3 : (t : ℕ) → expr-ends-lts.Need-expr-ends-requires-3 (
   head-ends-reads.Asked,
   head-ends-reads.Learnt,
@@ -519,7 +519,7 @@ expr-ends-expr-ends-requires-3 : (t : ℕ) → expr-ends-lts.Need-expr-ends-requ
 ) (expr-ends-at t) expr-ends.Post
 expr-ends-expr-ends-requires-3 t c κs = omega (arith, (c .before .before .before .before .before .before .before .before .before .before .before .before .before .before .before .before .pre .0), (head-moves (c .before .before .before .before .before .before .before .before .before .before .before .before .before .before .before .before .args .sheet .now .now) Expr (c .before .before .before .before .before .before .before .before .before .before .before .before .before .before .before .before .args .at) _ _ refl ((c .before .before .before .before .before .before .before .before .before .before .before .before .before .before .head-ends .ensures .0) (c .before .before .before .before .before .before .before .before .before .before .before .before .before .if1 .left))) .0, (head-moves (c .before .before .before .before .before .before .before .before .before .before .before .before .before .before .before .before .args .sheet .now .now) Expr (c .before .before .before .before .before .before .before .before .before .before .before .before .before .before .before .before .args .at) _ _ refl ((c .before .before .before .before .before .before .before .before .before .before .before .before .before .before .head-ends .ensures .0) (c .before .before .before .before .before .before .before .before .before .before .before .before .before .if1 .left))) .1, (reach-later (c .before .before .before .before .before .before .before .before .before .before .before .before .before .before .before .before .args .sheet .now .now) _ _ _ (item-step (c .before .before .before .before .before .before .before .before .before .before .before .before .before .before .before .before .args .sheet .now .now) (c .before .before .before .before .before .before .before .before .before .before .before .before .before .before .before .before .args .text .now .now) (lineFrom (c .before .before .before .before .before .before .before .before .before .before .before .before .before .before .before .before .args .base) (c .before .before .before .before .before .before .before .before .before .before .before .before .before .before .before .before .args .len)) (nodeForm (c .before .before .before .before .before .before .before .before .before .before .before .before .before .before .before .before .args .sheet .now .now) (c .before .before .before .before .before .before .before .before .before .before .before .before .before .before .before .before .args .text .now .now) (lineFrom (c .before .before .before .before .before .before .before .before .before .before .before .before .before .before .before .before .args .base) (c .before .before .before .before .before .before .before .before .before .before .before .before .before .before .before .before .args .len)) 0) (node-step (c .before .before .before .before .before .before .before .before .before .before .before .before .before .before .before .before .args .sheet .now .now) (c .before .before .before .before .before .before .before .before .before .before .before .before .before .before .before .before .args .text .now .now) (lineFrom (c .before .before .before .before .before .before .before .before .before .before .before .before .before .before .before .before .args .base) (c .before .before .before .before .before .before .before .before .before .before .before .before .before .before .before .before .args .len)) 0) (ownRange Expr (c .before .before .before .before .before .before .before .before .before .before .payload-at .result)) (c .before .before .before .before .before .before .before .before .before .before .before .before .before .before .head-ends .result)) (c .before .before .before .before .before .before .before .own-ends .ensures) (c .before .before .before .before .before .before .if3 .left)), reach-later (c .before .before .before .before .before .before .before .before .before .before .before .before .before .before .before .before .args .sheet .now .now) _ _ _ (node-step (c .before .before .before .before .before .before .before .before .before .before .before .before .before .before .before .before .args .sheet .now .now) (c .before .before .before .before .before .before .before .before .before .before .before .before .before .before .before .before .args .text .now .now) (lineFrom (c .before .before .before .before .before .before .before .before .before .before .before .before .before .before .before .before .args .base) (c .before .before .before .before .before .before .before .before .before .before .before .before .before .before .before .before .args .len)) ((c .before .before .before .before .before .before .before .before .before .before .before .before .before .before .before .before .args .left) - 1) Expr (c .before .before .before .before .before .before .before .own-ends .result)) (c .before .before .before .before .expr-ends2 .ensures) (c .before .before .before .if6 .left), reach-later (c .before .before .before .before .before .before .before .before .before .before .before .before .before .before .before .before .args .sheet .now .now) _ _ _ (then-ends (c .before .before .before .before .before .before .before .before .before .before .before .before .before .before .before .before .args .sheet .now .now) (c .before .before .before .before .expr-ends2 .result) _ _ (range-step (c .before .before .before .before .before .before .before .before .before .before .before .before .before .before .before .before .args .sheet .now .now) (lineFrom (c .before .before .before .before .before .before .before .before .before .before .before .before .before .before .before .before .args .base) (c .before .before .before .before .before .before .before .before .before .before .before .before .before .before .before .before .args .len)) (c .before .before .before .before .expr-ends2 .result)) (λ r. word-step (c .before .before .before .before .before .before .before .before .before .before .before .before .before .before .before .before .args .sheet .now .now) 9 13 r)) (c .before .operator-ends2 .ensures) (c .if7 .left))
 
--- src/quick.rt:206:17
+-- src/expr.rt:94:17
 expr-ends-operator-ends-requires-3 : (t : ℕ) → expr-ends-lts.Need-operator-ends-requires-3 (
   head-ends-reads.Asked,
   head-ends-reads.Learnt,
@@ -540,7 +540,7 @@ expr-ends-operator-ends-requires-3 : (t : ℕ) → expr-ends-lts.Need-operator-e
 ) (expr-ends-at t) expr-ends.Post
 expr-ends-operator-ends-requires-3 t c κs = search needs
 
--- src/quick.rt:208:17
+-- src/expr.rt:96:17
 expr-ends-returns-8 : (t : ℕ) → expr-ends-lts.Need-returns-8 (
   head-ends-reads.Asked,
   head-ends-reads.Learnt,
@@ -562,7 +562,7 @@ expr-ends-returns-8 : (t : ℕ) → expr-ends-lts.Need-returns-8 (
 unfolding exprFields
 expr-ends-returns-8 t c = expr-fields (c .before .before .before .before .before .before .before .before .before .before .before .before .before .before .args .sheet .now .now) (c .before .before .before .before .before .before .before .before .before .before .before .before .before .before .args .text .now .now) (lineFrom (c .before .before .before .before .before .before .before .before .before .before .before .before .before .before .args .base) (c .before .before .before .before .before .before .before .before .before .before .before .before .before .before .args .len)) _ _ _ _ _ _ _ (c .before .before .before .before .before .before .before .before .before .before .before .before .head-ends .ensures) (c .before .before .before .before .before .before .before .before .before .before .before .if1 .left) (c .before .before .before .before .before .before .before .before .before .before .if2 .left) (c .before .before .before .before .before .before .before .before .payload-at .ensures) (c .before .before .before .before .before .own-ends .ensures) (c .before .before .before .before .if3 .left) (c .before .before .before .match .keys5) (operator-stop _ _ _ _ _ _ _ _ (c .before .operator-ends3 .ensures) (c .if8 .taken))
 
--- src/quick.rt:210:47
+-- src/expr.rt:98:47
 expr-ends-sub-expr-ends-4 : (t : ℕ) → expr-ends-lts.Need-sub-expr-ends-4 (
   head-ends-reads.Asked,
   head-ends-reads.Learnt,
@@ -583,7 +583,7 @@ expr-ends-sub-expr-ends-4 : (t : ℕ) → expr-ends-lts.Need-sub-expr-ends-4 (
 ) (expr-ends-at t) expr-ends.Post
 expr-ends-sub-expr-ends-4 t c = search needs
 
--- src/quick.rt:210:13
+-- src/expr.rt:98:13
 expr-ends-expr-ends-requires-4 : (t : ℕ) → expr-ends-lts.Need-expr-ends-requires-4 (
   head-ends-reads.Asked,
   head-ends-reads.Learnt,
@@ -604,7 +604,7 @@ expr-ends-expr-ends-requires-4 : (t : ℕ) → expr-ends-lts.Need-expr-ends-requ
 ) (expr-ends-at t) expr-ends.Post
 expr-ends-expr-ends-requires-4 t c κs = omega (arith, (c .before .before .before .before .before .before .before .before .before .before .before .before .before .before .pre .0), (head-moves (c .before .before .before .before .before .before .before .before .before .before .before .before .before .before .args .sheet .now .now) Expr (c .before .before .before .before .before .before .before .before .before .before .before .before .before .before .args .at) _ _ refl ((c .before .before .before .before .before .before .before .before .before .before .before .before .head-ends .ensures .0) (c .before .before .before .before .before .before .before .before .before .before .before .if1 .left))) .0, (head-moves (c .before .before .before .before .before .before .before .before .before .before .before .before .before .before .args .sheet .now .now) Expr (c .before .before .before .before .before .before .before .before .before .before .before .before .before .before .args .at) _ _ refl ((c .before .before .before .before .before .before .before .before .before .before .before .before .head-ends .ensures .0) (c .before .before .before .before .before .before .before .before .before .before .before .if1 .left))) .1, (reach-later (c .before .before .before .before .before .before .before .before .before .before .before .before .before .before .args .sheet .now .now) _ _ _ (item-step (c .before .before .before .before .before .before .before .before .before .before .before .before .before .before .args .sheet .now .now) (c .before .before .before .before .before .before .before .before .before .before .before .before .before .before .args .text .now .now) (lineFrom (c .before .before .before .before .before .before .before .before .before .before .before .before .before .before .args .base) (c .before .before .before .before .before .before .before .before .before .before .before .before .before .before .args .len)) (nodeForm (c .before .before .before .before .before .before .before .before .before .before .before .before .before .before .args .sheet .now .now) (c .before .before .before .before .before .before .before .before .before .before .before .before .before .before .args .text .now .now) (lineFrom (c .before .before .before .before .before .before .before .before .before .before .before .before .before .before .args .base) (c .before .before .before .before .before .before .before .before .before .before .before .before .before .before .args .len)) 0) (node-step (c .before .before .before .before .before .before .before .before .before .before .before .before .before .before .args .sheet .now .now) (c .before .before .before .before .before .before .before .before .before .before .before .before .before .before .args .text .now .now) (lineFrom (c .before .before .before .before .before .before .before .before .before .before .before .before .before .before .args .base) (c .before .before .before .before .before .before .before .before .before .before .before .before .before .before .args .len)) 0) (ownRange Expr (c .before .before .before .before .before .before .before .before .payload-at .result)) (c .before .before .before .before .before .before .before .before .before .before .before .before .head-ends .result)) (c .before .before .before .before .before .own-ends .ensures) (c .before .before .before .before .if3 .left)), reach-later (c .before .before .before .before .before .before .before .before .before .before .before .before .before .before .args .sheet .now .now) _ _ _ (then-ends (c .before .before .before .before .before .before .before .before .before .before .before .before .before .before .args .sheet .now .now) (c .before .before .before .before .before .own-ends .result) _ _ (range-step (c .before .before .before .before .before .before .before .before .before .before .before .before .before .before .args .sheet .now .now) (lineFrom (c .before .before .before .before .before .before .before .before .before .before .before .before .before .before .args .base) (c .before .before .before .before .before .before .before .before .before .before .before .before .before .before .args .len)) (c .before .before .before .before .before .own-ends .result)) (λ r. word-step (c .before .before .before .before .before .before .before .before .before .before .before .before .before .before .args .sheet .now .now) 9 3 r)) (c .before .operator-ends3 .ensures) (c .if8 .left))
 
--- src/quick.rt:213:17
+-- src/expr.rt:101:17
 expr-ends-optional-name-ends-requires-2 :
     (t : ℕ) → expr-ends-lts.Need-optional-name-ends-requires-2 (
       head-ends-reads.Asked,
@@ -626,7 +626,7 @@ expr-ends-optional-name-ends-requires-2 :
     ) (expr-ends-at t) expr-ends.Post
 expr-ends-optional-name-ends-requires-2 t c κs = search needs
 
--- src/quick.rt:215:17
+-- src/expr.rt:103:17
 expr-ends-returns-9 : (t : ℕ) → expr-ends-lts.Need-returns-9 (
   head-ends-reads.Asked,
   head-ends-reads.Learnt,
@@ -648,7 +648,7 @@ expr-ends-returns-9 : (t : ℕ) → expr-ends-lts.Need-returns-9 (
 unfolding exprFields itemForm
 expr-ends-returns-9 t c = expr-fields (c .before .before .before .before .before .before .before .before .before .before .before .before .before .before .before .args .sheet .now .now) (c .before .before .before .before .before .before .before .before .before .before .before .before .before .before .before .args .text .now .now) (lineFrom (c .before .before .before .before .before .before .before .before .before .before .before .before .before .before .before .args .base) (c .before .before .before .before .before .before .before .before .before .before .before .before .before .before .before .args .len)) _ _ _ _ _ _ _ (c .before .before .before .before .before .before .before .before .before .before .before .before .before .head-ends .ensures) (c .before .before .before .before .before .before .before .before .before .before .before .before .if1 .left) (c .before .before .before .before .before .before .before .before .before .before .before .if2 .left) (c .before .before .before .before .before .before .before .before .before .payload-at .ensures) (c .before .before .before .before .before .before .own-ends .ensures) (c .before .before .before .before .before .if3 .left) (c .before .before .before .before .match .keys6) (one-stop _ _ _ _ _ _ _ _ (c .before .optional-name-ends2 .ensures) (c .if9 .taken))
 
--- src/quick.rt:217:48
+-- src/expr.rt:105:48
 expr-ends-sub-exprs-ends-2 : (t : ℕ) → expr-ends-lts.Need-sub-exprs-ends-2 (
   head-ends-reads.Asked,
   head-ends-reads.Learnt,
@@ -669,7 +669,7 @@ expr-ends-sub-exprs-ends-2 : (t : ℕ) → expr-ends-lts.Need-sub-exprs-ends-2 (
 ) (expr-ends-at t) expr-ends.Post
 expr-ends-sub-exprs-ends-2 t c = search needs
 
--- src/quick.rt:217:13
+-- src/expr.rt:105:13
 expr-ends-exprs-ends-requires-2 : (t : ℕ) → expr-ends-lts.Need-exprs-ends-requires-2 (
   head-ends-reads.Asked,
   head-ends-reads.Learnt,
@@ -690,7 +690,7 @@ expr-ends-exprs-ends-requires-2 : (t : ℕ) → expr-ends-lts.Need-exprs-ends-re
 ) (expr-ends-at t) expr-ends.Post
 expr-ends-exprs-ends-requires-2 t c κs = omega (arith, (c .before .before .before .before .before .before .before .before .before .before .before .before .before .before .before .pre .0), (head-moves (c .before .before .before .before .before .before .before .before .before .before .before .before .before .before .before .args .sheet .now .now) Expr (c .before .before .before .before .before .before .before .before .before .before .before .before .before .before .before .args .at) _ _ refl ((c .before .before .before .before .before .before .before .before .before .before .before .before .before .head-ends .ensures .0) (c .before .before .before .before .before .before .before .before .before .before .before .before .if1 .left))) .0, (head-moves (c .before .before .before .before .before .before .before .before .before .before .before .before .before .before .before .args .sheet .now .now) Expr (c .before .before .before .before .before .before .before .before .before .before .before .before .before .before .before .args .at) _ _ refl ((c .before .before .before .before .before .before .before .before .before .before .before .before .before .head-ends .ensures .0) (c .before .before .before .before .before .before .before .before .before .before .before .before .if1 .left))) .1, (reach-later (c .before .before .before .before .before .before .before .before .before .before .before .before .before .before .before .args .sheet .now .now) _ _ _ (item-step (c .before .before .before .before .before .before .before .before .before .before .before .before .before .before .before .args .sheet .now .now) (c .before .before .before .before .before .before .before .before .before .before .before .before .before .before .before .args .text .now .now) (lineFrom (c .before .before .before .before .before .before .before .before .before .before .before .before .before .before .before .args .base) (c .before .before .before .before .before .before .before .before .before .before .before .before .before .before .before .args .len)) (nodeForm (c .before .before .before .before .before .before .before .before .before .before .before .before .before .before .before .args .sheet .now .now) (c .before .before .before .before .before .before .before .before .before .before .before .before .before .before .before .args .text .now .now) (lineFrom (c .before .before .before .before .before .before .before .before .before .before .before .before .before .before .before .args .base) (c .before .before .before .before .before .before .before .before .before .before .before .before .before .before .before .args .len)) 0) (node-step (c .before .before .before .before .before .before .before .before .before .before .before .before .before .before .before .args .sheet .now .now) (c .before .before .before .before .before .before .before .before .before .before .before .before .before .before .before .args .text .now .now) (lineFrom (c .before .before .before .before .before .before .before .before .before .before .before .before .before .before .before .args .base) (c .before .before .before .before .before .before .before .before .before .before .before .before .before .before .before .args .len)) 0) (ownRange Expr (c .before .before .before .before .before .before .before .before .before .payload-at .result)) (c .before .before .before .before .before .before .before .before .before .before .before .before .before .head-ends .result)) (c .before .before .before .before .before .before .own-ends .ensures) (c .before .before .before .before .before .if3 .left)), reach-later (c .before .before .before .before .before .before .before .before .before .before .before .before .before .before .before .args .sheet .now .now) _ _ _ (absent-or (c .before .before .before .before .before .before .before .before .before .before .before .before .before .before .before .args .sheet .now .now) (c .before .before .before .before .before .before .own-ends .result) (nameForm (c .before .before .before .before .before .before .before .before .before .before .before .before .before .before .before .args .sheet .now .now) (c .before .before .before .before .before .before .before .before .before .before .before .before .before .before .before .args .text .now .now) (lineFrom (c .before .before .before .before .before .before .before .before .before .before .before .before .before .before .before .args .base) (c .before .before .before .before .before .before .before .before .before .before .before .before .before .before .before .args .len))) (name-step (c .before .before .before .before .before .before .before .before .before .before .before .before .before .before .before .args .sheet .now .now) (c .before .before .before .before .before .before .before .before .before .before .before .before .before .before .before .args .text .now .now) (lineFrom (c .before .before .before .before .before .before .before .before .before .before .before .before .before .before .before .args .base) (c .before .before .before .before .before .before .before .before .before .before .before .before .before .before .before .args .len)) (c .before .before .before .before .before .before .own-ends .result))) (c .before .optional-name-ends2 .ensures) (c .if9 .left))
 
--- src/quick.rt:156:1
+-- src/expr.rt:44:1
 expr-ends-returns-10 : (t : ℕ) → expr-ends-lts.Need-returns-10 (
   head-ends-reads.Asked,
   head-ends-reads.Learnt,
@@ -712,7 +712,7 @@ expr-ends-returns-10 : (t : ℕ) → expr-ends-lts.Need-returns-10 (
 unfolding exprFields itemForm
 expr-ends-returns-10 t c = expr-fields (c .before .before .before .before .before .before .before .before .before .before .before .before .before .args .sheet .now .now) (c .before .before .before .before .before .before .before .before .before .before .before .before .before .args .text .now .now) (lineFrom (c .before .before .before .before .before .before .before .before .before .before .before .before .before .args .base) (c .before .before .before .before .before .before .before .before .before .before .before .before .before .args .len)) _ _ _ _ _ _ _ (c .before .before .before .before .before .before .before .before .before .before .before .head-ends .ensures) (c .before .before .before .before .before .before .before .before .before .before .if1 .left) (c .before .before .before .before .before .before .before .before .before .if2 .left) (c .before .before .before .before .before .before .before .payload-at .ensures) (c .before .before .before .before .own-ends .ensures) (c .before .before .before .if3 .left) (c .before .before .match .keys1) (one-last _ _ _ _ _ _ _ (c .number-ends .ensures))
 
--- src/quick.rt:156:1
+-- src/expr.rt:44:1
 expr-ends-returns-11 : (t : ℕ) → expr-ends-lts.Need-returns-11 (
   head-ends-reads.Asked,
   head-ends-reads.Learnt,
@@ -734,7 +734,7 @@ expr-ends-returns-11 : (t : ℕ) → expr-ends-lts.Need-returns-11 (
 unfolding exprFields
 expr-ends-returns-11 t c = expr-fields (c .before .before .before .before .before .before .before .before .before .before .before .before .before .before .before .args .sheet .now .now) (c .before .before .before .before .before .before .before .before .before .before .before .before .before .before .before .args .text .now .now) (lineFrom (c .before .before .before .before .before .before .before .before .before .before .before .before .before .before .before .args .base) (c .before .before .before .before .before .before .before .before .before .before .before .before .before .before .before .args .len)) _ _ _ _ _ _ _ (c .before .before .before .before .before .before .before .before .before .before .before .before .before .head-ends .ensures) (c .before .before .before .before .before .before .before .before .before .before .before .before .if1 .left) (c .before .before .before .before .before .before .before .before .before .before .before .if2 .left) (c .before .before .before .before .before .before .before .before .before .payload-at .ensures) (c .before .before .before .before .before .before .own-ends .ensures) (c .before .before .before .before .before .if3 .left) (c .before .before .before .before .match .keys2) (operator-go _ _ _ _ _ _ _ _ _ (c .before .before .operator-ends .ensures) (c .before .if4 .left) (field-last _ _ _ _ _ _ _ (c .exprs-ends .ensures)))
 
--- src/quick.rt:156:1
+-- src/expr.rt:44:1
 expr-ends-returns-12 : (t : ℕ) → expr-ends-lts.Need-returns-12 (
   head-ends-reads.Asked,
   head-ends-reads.Learnt,
@@ -756,7 +756,7 @@ expr-ends-returns-12 : (t : ℕ) → expr-ends-lts.Need-returns-12 (
 unfolding exprFields itemForm
 expr-ends-returns-12 t c = expr-fields (c .before .before .before .before .before .before .before .before .before .before .before .before .before .before .before .before .args .sheet .now .now) (c .before .before .before .before .before .before .before .before .before .before .before .before .before .before .before .before .args .text .now .now) (lineFrom (c .before .before .before .before .before .before .before .before .before .before .before .before .before .before .before .before .args .base) (c .before .before .before .before .before .before .before .before .before .before .before .before .before .before .before .before .args .len)) _ _ _ _ _ _ _ (c .before .before .before .before .before .before .before .before .before .before .before .before .before .before .head-ends .ensures) (c .before .before .before .before .before .before .before .before .before .before .before .before .before .if1 .left) (c .before .before .before .before .before .before .before .before .before .before .before .before .if2 .left) (c .before .before .before .before .before .before .before .before .before .before .payload-at .ensures) (c .before .before .before .before .before .before .before .own-ends .ensures) (c .before .before .before .before .before .before .if3 .left) (c .before .before .before .before .before .match .keys3) (one-go _ _ _ _ _ _ _ _ _ (c .before .before .optional-name-ends .ensures) (c .before .if5 .left) (one-last _ _ _ _ _ _ _ (c .expr-ends .ensures)))
 
--- src/quick.rt:156:1
+-- src/expr.rt:44:1
 expr-ends-returns-13 : (t : ℕ) → expr-ends-lts.Need-returns-13 (
   head-ends-reads.Asked,
   head-ends-reads.Learnt,
@@ -778,7 +778,7 @@ expr-ends-returns-13 : (t : ℕ) → expr-ends-lts.Need-returns-13 (
 unfolding exprFields itemForm
 expr-ends-returns-13 t c = expr-fields (c .before .before .before .before .before .before .before .before .before .before .before .before .before .before .before .before .before .args .sheet .now .now) (c .before .before .before .before .before .before .before .before .before .before .before .before .before .before .before .before .before .args .text .now .now) (lineFrom (c .before .before .before .before .before .before .before .before .before .before .before .before .before .before .before .before .before .args .base) (c .before .before .before .before .before .before .before .before .before .before .before .before .before .before .before .before .before .args .len)) _ _ _ _ _ _ _ (c .before .before .before .before .before .before .before .before .before .before .before .before .before .before .before .head-ends .ensures) (c .before .before .before .before .before .before .before .before .before .before .before .before .before .before .if1 .left) (c .before .before .before .before .before .before .before .before .before .before .before .before .before .if2 .left) (c .before .before .before .before .before .before .before .before .before .before .before .payload-at .ensures) (c .before .before .before .before .before .before .before .before .own-ends .ensures) (c .before .before .before .before .before .before .before .if3 .left) (c .before .before .before .before .before .before .match .keys4) (one-go _ _ _ _ _ _ _ _ _ (c .before .before .before .before .before .expr-ends2 .ensures) (c .before .before .before .before .if6 .left) (operator-go _ _ _ _ _ _ _ _ _ (c .before .before .operator-ends2 .ensures) (c .before .if7 .left) (one-last _ _ _ _ _ _ _ (c .expr-ends3 .ensures))))
 
--- src/quick.rt:156:1
+-- src/expr.rt:44:1
 expr-ends-returns-14 : (t : ℕ) → expr-ends-lts.Need-returns-14 (
   head-ends-reads.Asked,
   head-ends-reads.Learnt,
@@ -800,7 +800,7 @@ expr-ends-returns-14 : (t : ℕ) → expr-ends-lts.Need-returns-14 (
 unfolding exprFields itemForm
 expr-ends-returns-14 t c = expr-fields (c .before .before .before .before .before .before .before .before .before .before .before .before .before .before .before .args .sheet .now .now) (c .before .before .before .before .before .before .before .before .before .before .before .before .before .before .before .args .text .now .now) (lineFrom (c .before .before .before .before .before .before .before .before .before .before .before .before .before .before .before .args .base) (c .before .before .before .before .before .before .before .before .before .before .before .before .before .before .before .args .len)) _ _ _ _ _ _ _ (c .before .before .before .before .before .before .before .before .before .before .before .before .before .head-ends .ensures) (c .before .before .before .before .before .before .before .before .before .before .before .before .if1 .left) (c .before .before .before .before .before .before .before .before .before .before .before .if2 .left) (c .before .before .before .before .before .before .before .before .before .payload-at .ensures) (c .before .before .before .before .before .before .own-ends .ensures) (c .before .before .before .before .before .if3 .left) (c .before .before .before .before .match .keys5) (operator-go _ _ _ _ _ _ _ _ _ (c .before .before .operator-ends3 .ensures) (c .before .if8 .left) (one-last _ _ _ _ _ _ _ (c .expr-ends4 .ensures)))
 
--- src/quick.rt:156:1
+-- src/expr.rt:44:1
 expr-ends-returns-15 : (t : ℕ) → expr-ends-lts.Need-returns-15 (
   head-ends-reads.Asked,
   head-ends-reads.Learnt,
@@ -822,7 +822,7 @@ expr-ends-returns-15 : (t : ℕ) → expr-ends-lts.Need-returns-15 (
 unfolding exprFields itemForm
 expr-ends-returns-15 t c = expr-fields (c .before .before .before .before .before .before .before .before .before .before .before .before .before .before .before .before .args .sheet .now .now) (c .before .before .before .before .before .before .before .before .before .before .before .before .before .before .before .before .args .text .now .now) (lineFrom (c .before .before .before .before .before .before .before .before .before .before .before .before .before .before .before .before .args .base) (c .before .before .before .before .before .before .before .before .before .before .before .before .before .before .before .before .args .len)) _ _ _ _ _ _ _ (c .before .before .before .before .before .before .before .before .before .before .before .before .before .before .head-ends .ensures) (c .before .before .before .before .before .before .before .before .before .before .before .before .before .if1 .left) (c .before .before .before .before .before .before .before .before .before .before .before .before .if2 .left) (c .before .before .before .before .before .before .before .before .before .before .payload-at .ensures) (c .before .before .before .before .before .before .before .own-ends .ensures) (c .before .before .before .before .before .before .if3 .left) (c .before .before .before .before .before .match .keys6) (one-go _ _ _ _ _ _ _ _ _ (c .before .before .optional-name-ends2 .ensures) (c .before .if9 .left) (field-last _ _ _ _ _ _ _ (c .exprs-ends2 .ensures)))
 
--- src/quick.rt:156:1
+-- src/expr.rt:44:1
 expr-ends-returns-16 : (t : ℕ) → expr-ends-lts.Need-returns-16 (
   head-ends-reads.Asked,
   head-ends-reads.Learnt,
@@ -849,7 +849,7 @@ exprs-ends-Inv-loop sheet text base len left at q p₀ n₀ p n = (p₀ ≤ p) �
 abbrev exprs-ends-μ-loop : exprs-ends-lts.MeasureT-loop
 exprs-ends-μ-loop sheet text base len left at q p₀ n₀ p n = n
 
--- src/quick.rt:138:9
+-- src/expr.rt:26:9
 exprs-ends-non-empty-ends-requires : (t : ℕ) → exprs-ends-lts.Need-non-empty-ends-requires (
   non-empty-ends-reads.Asked,
   non-empty-ends-reads.Learnt,
@@ -860,7 +860,7 @@ exprs-ends-non-empty-ends-requires : (t : ℕ) → exprs-ends-lts.Need-non-empty
 ) (exprs-ends-at t) exprs-ends.Post exprs-ends-Inv-loop exprs-ends-μ-loop
 exprs-ends-non-empty-ends-requires t c κs = search needs
 
--- src/quick.rt:140:9
+-- src/expr.rt:28:9
 exprs-ends-returns : (t : ℕ) → exprs-ends-lts.Need-returns (
   non-empty-ends-reads.Asked,
   non-empty-ends-reads.Learnt,
@@ -872,7 +872,7 @@ exprs-ends-returns : (t : ℕ) → exprs-ends-lts.Need-returns (
 unfolding fieldForm
 exprs-ends-returns t c = some-stop (c .before .before .before .args .sheet .now .now) (c .before .before .before .args .text .now .now) (lineFrom (c .before .before .before .args .base) (c .before .before .before .args .len)) (pairForm (c .before .before .before .args .sheet .now .now) (c .before .before .before .args .text .now .now) (lineFrom (c .before .before .before .args .base) (c .before .before .before .args .len)) (nodeForm (c .before .before .before .args .sheet .now .now) (c .before .before .before .args .text .now .now) (lineFrom (c .before .before .before .args .base) (c .before .before .before .args .len)) (c .before .before .before .args .left)) expr Nothing) _ _ (c .before .non-empty-ends .ensures) (c .if1 .taken)
 
--- src/quick.rt:143:9
+-- src/expr.rt:31:9
 exprs-ends-payload-at-requires : (t : ℕ) → exprs-ends-lts.Need-payload-at-requires (
   non-empty-ends-reads.Asked,
   non-empty-ends-reads.Learnt,
@@ -883,7 +883,7 @@ exprs-ends-payload-at-requires : (t : ℕ) → exprs-ends-lts.Need-payload-at-re
 ) (exprs-ends-at t) exprs-ends.Post exprs-ends-Inv-loop exprs-ends-μ-loop
 exprs-ends-payload-at-requires t c κs = search needs
 
--- src/quick.rt:144:5
+-- src/expr.rt:32:5
 exprs-ends-loop-holds : (t : ℕ) → exprs-ends-lts.Need-loop-holds (
   non-empty-ends-reads.Asked,
   non-empty-ends-reads.Learnt,
@@ -894,7 +894,7 @@ exprs-ends-loop-holds : (t : ℕ) → exprs-ends-lts.Need-loop-holds (
 ) (exprs-ends-at t) exprs-ends.Post exprs-ends-Inv-loop exprs-ends-μ-loop
 exprs-ends-loop-holds t c = (omega arith, refl)
 
--- src/quick.rt:145:13
+-- src/expr.rt:33:13
 exprs-ends-expr-ends-requires : (t : ℕ) → exprs-ends-lts.Need-expr-ends-requires (
   non-empty-ends-reads.Asked,
   non-empty-ends-reads.Learnt,
@@ -905,7 +905,7 @@ exprs-ends-expr-ends-requires : (t : ℕ) → exprs-ends-lts.Need-expr-ends-requ
 ) (exprs-ends-at t) exprs-ends.Post exprs-ends-Inv-loop exprs-ends-μ-loop
 exprs-ends-expr-ends-requires t c κs = omega (arith, (c .before .before .before .before .before .before .before .pre .0), (c .before .loop .inv .0), reach-later (c .before .before .before .before .before .before .before .args .sheet .now .now) _ _ _ (non-empty-step (c .before .before .before .before .before .before .before .args .sheet .now .now) (c .before .before .before .before .before .before .before .args .at)) (c .before .before .before .before .before .non-empty-ends .ensures) (c .before .before .before .before .if1 .left))
 
--- src/quick.rt:147:13
+-- src/expr.rt:35:13
 exprs-ends-returns-2 : (t : ℕ) → exprs-ends-lts.Need-returns-2 (
   non-empty-ends-reads.Asked,
   non-empty-ends-reads.Learnt,
@@ -917,7 +917,7 @@ exprs-ends-returns-2 : (t : ℕ) → exprs-ends-lts.Need-returns-2 (
 unfolding fieldForm
 exprs-ends-returns-2 t c = some-repeat (c .before .before .before .before .before .before .before .before .before .args .sheet .now .now) (c .before .before .before .before .before .before .before .before .before .args .text .now .now) (lineFrom (c .before .before .before .before .before .before .before .before .before .args .base) (c .before .before .before .before .before .before .before .before .before .args .len)) (pairForm (c .before .before .before .before .before .before .before .before .before .args .sheet .now .now) (c .before .before .before .before .before .before .before .before .before .args .text .now .now) (lineFrom (c .before .before .before .before .before .before .before .before .before .args .base) (c .before .before .before .before .before .before .before .before .before .args .len)) (nodeForm (c .before .before .before .before .before .before .before .before .before .args .sheet .now .now) (c .before .before .before .before .before .before .before .before .before .args .text .now .now) (lineFrom (c .before .before .before .before .before .before .before .before .before .args .base) (c .before .before .before .before .before .before .before .before .before .args .len)) (c .before .before .before .before .before .before .before .before .before .args .left)) expr Nothing) _ _ _ (c .before .before .before .before .before .before .before .non-empty-ends .ensures) (c .before .before .before .before .before .before .if1 .left) (repeat-stops (c .before .before .before .before .before .before .before .before .before .args .sheet .now .now) (c .before .before .before .before .before .before .before .before .before .args .text .now .now) (lineFrom (c .before .before .before .before .before .before .before .before .before .args .base) (c .before .before .before .before .before .before .before .before .before .args .len)) (pairForm (c .before .before .before .before .before .before .before .before .before .args .sheet .now .now) (c .before .before .before .before .before .before .before .before .before .args .text .now .now) (lineFrom (c .before .before .before .before .before .before .before .before .before .args .base) (c .before .before .before .before .before .before .before .before .before .args .len)) (nodeForm (c .before .before .before .before .before .before .before .before .before .args .sheet .now .now) (c .before .before .before .before .before .before .before .before .before .args .text .now .now) (lineFrom (c .before .before .before .before .before .before .before .before .before .args .base) (c .before .before .before .before .before .before .before .before .before .args .len)) (c .before .before .before .before .before .before .before .before .before .args .left)) expr Nothing) _ _ _ _ _ _ (c .before .before .loop-test .taken) (reach-alone (c .before .before .before .before .before .before .before .before .before .args .sheet .now .now) (c .before .before .before .before .before .before .before .before .before .args .text .now .now) (lineFrom (c .before .before .before .before .before .before .before .before .before .args .base) (c .before .before .before .before .before .before .before .before .before .args .len)) (nodeForm (c .before .before .before .before .before .before .before .before .before .args .sheet .now .now) (c .before .before .before .before .before .before .before .before .before .args .text .now .now) (lineFrom (c .before .before .before .before .before .before .before .before .before .args .base) (c .before .before .before .before .before .before .before .before .before .args .len)) (c .before .before .before .before .before .before .before .before .before .args .left)) Expr _ _ (c .before .expr-ends .ensures)) (c .if2 .taken) (c .before .before .before .loop .inv .0) (c .before .before .before .loop .inv .1) (c .before .before .before .before .payload-at .ensures))
 
--- src/quick.rt:150:9
+-- src/expr.rt:38:9
 exprs-ends-sub-n : (t : ℕ) → exprs-ends-lts.Need-sub-n (
   non-empty-ends-reads.Asked,
   non-empty-ends-reads.Learnt,
@@ -928,7 +928,7 @@ exprs-ends-sub-n : (t : ℕ) → exprs-ends-lts.Need-sub-n (
 ) (exprs-ends-at t) exprs-ends.Post exprs-ends-Inv-loop exprs-ends-μ-loop
 exprs-ends-sub-n t c = search needs
 
--- src/quick.rt:144:5
+-- src/expr.rt:32:5
 exprs-ends-loop-less : (t : ℕ) → exprs-ends-lts.Need-loop-less (
   non-empty-ends-reads.Asked,
   non-empty-ends-reads.Learnt,
@@ -939,7 +939,7 @@ exprs-ends-loop-less : (t : ℕ) → exprs-ends-lts.Need-loop-less (
 ) (exprs-ends-at t) exprs-ends.Post exprs-ends-Inv-loop exprs-ends-μ-loop
 exprs-ends-loop-less t c = omega (arith, (c .before .before .loop-test .taken))
 
--- src/quick.rt:144:5
+-- src/expr.rt:32:5
 exprs-ends-loop-again : (t : ℕ) → exprs-ends-lts.Need-loop-again (
   non-empty-ends-reads.Asked,
   non-empty-ends-reads.Learnt,
@@ -950,7 +950,7 @@ exprs-ends-loop-again : (t : ℕ) → exprs-ends-lts.Need-loop-again (
 ) (exprs-ends-at t) exprs-ends.Post exprs-ends-Inv-loop exprs-ends-μ-loop
 exprs-ends-loop-again t c = (omega (arith, (c .before .before .before .loop .inv .0), reach-later (c .before .before .before .before .before .before .before .before .before .args .sheet .now .now) _ _ _ (node-step (c .before .before .before .before .before .before .before .before .before .args .sheet .now .now) (c .before .before .before .before .before .before .before .before .before .args .text .now .now) (lineFrom (c .before .before .before .before .before .before .before .before .before .args .base) (c .before .before .before .before .before .before .before .before .before .args .len)) (c .before .before .before .before .before .before .before .before .before .args .left) Expr (c .before .before .before .loop .p)) (c .before .expr-ends .ensures) (c .if2 .left)), repeat-step (c .before .before .before .before .before .before .before .before .before .args .sheet .now .now) (c .before .before .before .before .before .before .before .before .before .args .text .now .now) (lineFrom (c .before .before .before .before .before .before .before .before .before .args .base) (c .before .before .before .before .before .before .before .before .before .args .len)) (pairForm (c .before .before .before .before .before .before .before .before .before .args .sheet .now .now) (c .before .before .before .before .before .before .before .before .before .args .text .now .now) (lineFrom (c .before .before .before .before .before .before .before .before .before .args .base) (c .before .before .before .before .before .before .before .before .before .args .len)) (nodeForm (c .before .before .before .before .before .before .before .before .before .args .sheet .now .now) (c .before .before .before .before .before .before .before .before .before .args .text .now .now) (lineFrom (c .before .before .before .before .before .before .before .before .before .args .base) (c .before .before .before .before .before .before .before .before .before .args .len)) (c .before .before .before .before .before .before .before .before .before .args .left)) expr Nothing) _ _ _ _ _ (c .before .before .loop-test .taken) refl ((reach-alone (c .before .before .before .before .before .before .before .before .before .args .sheet .now .now) (c .before .before .before .before .before .before .before .before .before .args .text .now .now) (lineFrom (c .before .before .before .before .before .before .before .before .before .args .base) (c .before .before .before .before .before .before .before .before .before .args .len)) (nodeForm (c .before .before .before .before .before .before .before .before .before .args .sheet .now .now) (c .before .before .before .before .before .before .before .before .before .args .text .now .now) (lineFrom (c .before .before .before .before .before .before .before .before .before .args .base) (c .before .before .before .before .before .before .before .before .before .args .len)) (c .before .before .before .before .before .before .before .before .before .args .left)) Expr _ _ (c .before .expr-ends .ensures)) .0 (c .if2 .left)) (c .before .before .before .loop .inv .1))
 
--- src/quick.rt:128:1
+-- src/expr.rt:16:1
 exprs-ends-returns-3 : (t : ℕ) → exprs-ends-lts.Need-returns-3 (
   non-empty-ends-reads.Asked,
   non-empty-ends-reads.Learnt,

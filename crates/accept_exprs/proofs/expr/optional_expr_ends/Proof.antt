@@ -11,24 +11,24 @@ use Rattle.accept_exprs.proofs.expr.expr_ends.Reads as expr-ends-reads
 use Rattle.accept_exprs.proofs.leaf.word_ends.Reads as word-ends-reads
 use Rattle.sheet.proofs.leaf.is_absent.Reads as is-absent-reads
 
--- src/quick.rt:270:8
+-- src/expr.rt:158:8
 is-absent-requires : tie.Need-is-absent-requires
 is-absent-requires c κs = search needs
 
--- src/quick.rt:271:9
+-- src/expr.rt:159:9
 word-ends-requires : tie.Need-word-ends-requires
 word-ends-requires c κs = search needs
 
--- src/quick.rt:273:9
+-- src/expr.rt:161:9
 expr-ends-requires : tie.Need-expr-ends-requires
 expr-ends-requires c κs = search needs
 
--- src/quick.rt:260:1
+-- src/expr.rt:148:1
 returns : tie.Need-returns
 unfolding fieldForm timesForm
 returns c = reach-yes _ _ _ _ _ _ (told _ _ _ (c .before .before .before .is-absent .ensures) (c .before .before .if1 .taken)) (c .word-ends .ensures)
 
--- src/quick.rt:260:1
+-- src/expr.rt:148:1
 returns-2 : tie.Need-returns-2
 unfolding fieldForm timesForm
 returns-2 c = reach-no _ _ _ _ _ _ (told _ _ _ (c .before .before .is-absent .ensures) (c .before .if1 .left)) (reach-alone _ _ _ _ _ _ _ (c .expr-ends .ensures))

@@ -9,15 +9,15 @@ use Rattle.accept_exprs.proofs.leaf.name_ends.Lts as lts
 use Rattle.accept_exprs.proofs.leaf.ends.Reads as ends-reads
 use Rattle.sheet.proofs.leaf.name_form.Reads as name-form-reads
 
--- src/quick.rt:55:10
+-- src/leaf.rt:45:10
 name-form-requires : tie.Need-name-form-requires
 name-form-requires c κs = search needs
 
--- src/quick.rt:55:5
+-- src/leaf.rt:45:5
 ends-requires : tie.Need-ends-requires
 ends-requires c κs = search needs
 
--- src/quick.rt:52:1
+-- src/leaf.rt:42:1
 returns : tie.Need-returns
 returns c = reach-leaf (c .before .before .before .before .args .sheet .now) _ _ _ _ (name-ends (c .before .before .before .before .args .sheet .now) (c .before .before .before .before .args .text .now) (lineFrom (c .before .before .before .before .args .base) (c .before .before .before .before .args .len)) (c .before .before .before .before .args .at)) (c .before .name-form .ensures) (c .ends .ensures)
 

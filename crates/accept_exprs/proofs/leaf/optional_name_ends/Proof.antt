@@ -10,15 +10,15 @@ use Rattle.accept_exprs.proofs.leaf.optional_name_ends.Lts as lts
 use Rattle.accept_exprs.proofs.leaf.ends.Reads as ends-reads
 use Rattle.sheet.proofs.leaf.optional_name_form.Reads as optional-name-form-reads
 
--- src/quick.rt:61:10
+-- src/leaf.rt:51:10
 optional-name-form-requires : tie.Need-optional-name-form-requires
 optional-name-form-requires c κs = search needs
 
--- src/quick.rt:61:5
+-- src/leaf.rt:51:5
 ends-requires : tie.Need-ends-requires
 ends-requires c κs = search needs
 
--- src/quick.rt:58:1
+-- src/leaf.rt:48:1
 returns : tie.Need-returns
 returns c = reach-leaf (c .before .before .before .before .args .sheet .now) _ _ _ _ (absent-or (c .before .before .before .before .args .sheet .now) (c .before .before .before .before .args .at) (nameForm (c .before .before .before .before .args .sheet .now) (c .before .before .before .before .args .text .now) (lineFrom (c .before .before .before .before .args .base) (c .before .before .before .before .args .len))) (name-ends (c .before .before .before .before .args .sheet .now) (c .before .before .before .before .args .text .now) (lineFrom (c .before .before .before .before .args .base) (c .before .before .before .before .args .len)) (c .before .before .before .before .args .at))) (c .before .optional-name-form .ensures) (c .ends .ensures)
 

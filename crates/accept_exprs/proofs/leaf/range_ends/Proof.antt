@@ -9,15 +9,15 @@ use Rattle.accept_exprs.proofs.leaf.range_ends.Lts as lts
 use Rattle.accept_exprs.proofs.leaf.ends.Reads as ends-reads
 use Rattle.sheet.proofs.leaf.range_form.Reads as range-form-reads
 
--- src/quick.rt:42:10
+-- src/leaf.rt:32:10
 range-form-requires : tie.Need-range-form-requires
 range-form-requires c κs = search needs
 
--- src/quick.rt:42:5
+-- src/leaf.rt:32:5
 ends-requires : tie.Need-ends-requires
 ends-requires c κs = search needs
 
--- src/quick.rt:39:1
+-- src/leaf.rt:29:1
 returns : tie.Need-returns
 returns c = reach-leaf (c .before .before .before .args .sheet .now) _ _ _ _ (range-ends (c .before .before .before .args .sheet .now) (lineFrom (c .before .before .before .args .base) (c .before .before .before .args .len)) (c .before .before .before .args .at)) (c .before .range-form .ensures) (c .ends .ensures)
 

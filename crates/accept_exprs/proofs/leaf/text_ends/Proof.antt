@@ -9,15 +9,15 @@ use Rattle.accept_exprs.proofs.leaf.text_ends.Lts as lts
 use Rattle.accept_exprs.proofs.leaf.ends.Reads as ends-reads
 use Rattle.sheet.proofs.leaf.text_form.Reads as text-form-reads
 
--- src/quick.rt:49:10
+-- src/leaf.rt:39:10
 text-form-requires : tie.Need-text-form-requires
 text-form-requires c κs = search needs
 
--- src/quick.rt:49:5
+-- src/leaf.rt:39:5
 ends-requires : tie.Need-ends-requires
 ends-requires c κs = search needs
 
--- src/quick.rt:46:1
+-- src/leaf.rt:36:1
 returns : tie.Need-returns
 returns c = reach-leaf (c .before .before .before .args .sheet .now) _ _ _ _ (text-ends (c .before .before .before .args .sheet .now) (lineFrom (c .before .before .before .args .base) (c .before .before .before .args .len)) (c .before .before .before .args .at)) (c .before .text-form .ensures) (c .ends .ensures)
 

@@ -8,15 +8,15 @@ use Rattle.accept_exprs.proofs.leaf.word_ends.Lts as lts
 use Rattle.accept_exprs.proofs.leaf.ends.Reads as ends-reads
 use Rattle.sheet.proofs.leaf.take_word.Reads as take-word-reads
 
--- src/quick.rt:36:10
+-- src/leaf.rt:26:10
 take-word-requires : tie.Need-take-word-requires
 take-word-requires c κs = search needs
 
--- src/quick.rt:36:5
+-- src/leaf.rt:26:5
 ends-requires : tie.Need-ends-requires
 ends-requires c κs = search needs
 
--- src/quick.rt:33:1
+-- src/leaf.rt:23:1
 returns : tie.Need-returns
 returns c = reach-leaf (c .before .before .before .args .sheet .now) _ _ _ _ (word-ends (c .before .before .before .args .sheet .now) (c .before .before .before .args .k) (c .before .before .before .args .n) (c .before .before .before .args .at)) (c .before .take-word .ensures) (c .ends .ensures)
 

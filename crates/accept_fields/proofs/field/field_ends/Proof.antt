@@ -8,20 +8,20 @@ use Rattle.accept_fields.proofs.field.field_ends.Lts as lts
 use Rattle.accept_exprs.proofs.expr.expr_ends.Reads as expr-ends-reads
 use Rattle.accept_fields.proofs.list.some_ends.Reads as some-ends-reads
 
--- src/quick.rt:508:9
+-- src/field.rt:109:9
 expr-ends-requires : tie.Need-expr-ends-requires
 expr-ends-requires c κs = search needs
 
--- src/quick.rt:510:9
+-- src/field.rt:111:9
 returns : tie.Need-returns
 unfolding itemForm fieldForm
 returns c = one-stop _ _ _ _ _ _ _ _ (c .before .expr-ends .ensures) (c .if1 .taken)
 
--- src/quick.rt:512:5
+-- src/field.rt:113:5
 some-ends-requires : tie.Need-some-ends-requires
 some-ends-requires c κs = search needs
 
--- src/quick.rt:498:1
+-- src/field.rt:99:1
 returns-2 : tie.Need-returns-2
 unfolding itemForm fieldForm
 returns-2 c = one-go _ _ _ _ _ _ _ _ _ (c .before .before .expr-ends .ensures) (c .before .if1 .left) (field-last _ _ _ _ _ _ _ (c .some-ends .ensures))

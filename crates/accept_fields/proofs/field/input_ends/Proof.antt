@@ -8,20 +8,20 @@ use Rattle.accept_fields.proofs.field.input_ends.Lts as lts
 use Rattle.accept_fields.proofs.list.some_ends.Reads as some-ends-reads
 use Rattle.accept_fields.proofs.field.source_ends.Reads as source-ends-reads
 
--- src/quick.rt:578:9
+-- src/field.rt:182:9
 source-ends-requires : tie.Need-source-ends-requires
 source-ends-requires c κs = search needs
 
--- src/quick.rt:580:9
+-- src/field.rt:184:9
 returns : tie.Need-returns
 unfolding itemForm fieldForm
 returns c = one-stop _ _ _ _ _ _ _ _ (c .before .source-ends .ensures) (c .if1 .taken)
 
--- src/quick.rt:582:5
+-- src/field.rt:186:5
 some-ends-requires : tie.Need-some-ends-requires
 some-ends-requires c κs = search needs
 
--- src/quick.rt:568:1
+-- src/field.rt:172:1
 returns-2 : tie.Need-returns-2
 unfolding itemForm fieldForm
 returns-2 c = one-go _ _ _ _ _ _ _ _ _ (c .before .before .source-ends .ensures) (c .before .if1 .left) (field-last _ _ _ _ _ _ _ (c .some-ends .ensures))

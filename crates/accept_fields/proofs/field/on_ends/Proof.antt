@@ -9,29 +9,29 @@ use Rattle.accept_exprs.proofs.expr.expr_ends.Reads as expr-ends-reads
 use Rattle.accept_fields.proofs.list.some_ends.Reads as some-ends-reads
 use Rattle.accept_exprs.proofs.leaf.word_ends.Reads as word-ends-reads
 
--- src/quick.rt:605:9
+-- src/field.rt:211:9
 expr-ends-requires : tie.Need-expr-ends-requires
 expr-ends-requires c κs = search needs
 
--- src/quick.rt:607:9
+-- src/field.rt:213:9
 returns : tie.Need-returns
 unfolding itemForm fieldForm
 returns c = one-stop _ _ _ _ _ _ _ _ (c .before .expr-ends .ensures) (c .if1 .taken)
 
--- src/quick.rt:609:9
+-- src/field.rt:215:9
 some-ends-requires : tie.Need-some-ends-requires
 some-ends-requires c κs = search needs
 
--- src/quick.rt:611:9
+-- src/field.rt:217:9
 returns-2 : tie.Need-returns-2
 unfolding itemForm fieldForm
 returns-2 c = one-go _ _ _ _ _ _ _ _ _ (c .before .before .before .expr-ends .ensures) (c .before .before .if1 .left) (field-stop _ _ _ _ _ _ _ _ (c .before .some-ends .ensures) (c .if2 .taken))
 
--- src/quick.rt:613:5
+-- src/field.rt:219:5
 word-ends-requires : tie.Need-word-ends-requires
 word-ends-requires c κs = search needs
 
--- src/quick.rt:602:1
+-- src/field.rt:208:1
 returns-3 : tie.Need-returns-3
 unfolding itemForm fieldForm
 returns-3 c = one-go _ _ _ _ _ _ _ _ _ (c .before .before .before .before .before .expr-ends .ensures) (c .before .before .before .before .if1 .left) (field-go _ _ _ _ _ _ _ _ _ (c .before .before .before .some-ends .ensures) (c .before .before .if2 .left) (one-last _ _ _ _ _ _ _ (c .word-ends .ensures)))

@@ -8,20 +8,20 @@ use Rattle.accept_fields.proofs.field.set_ends.Lts as lts
 use Rattle.accept_exprs.proofs.expr.expr_ends.Reads as expr-ends-reads
 use Rattle.accept_exprs.proofs.expr.place_ends.Reads as place-ends-reads
 
--- src/quick.rt:460:9
+-- src/field.rt:58:9
 place-ends-requires : tie.Need-place-ends-requires
 place-ends-requires c κs = search needs
 
--- src/quick.rt:462:9
+-- src/field.rt:60:9
 returns : tie.Need-returns
 unfolding itemForm
 returns c = one-stop _ _ _ _ _ _ _ _ (c .before .place-ends .ensures) (c .if1 .taken)
 
--- src/quick.rt:464:5
+-- src/field.rt:62:5
 expr-ends-requires : tie.Need-expr-ends-requires
 expr-ends-requires c κs = search needs
 
--- src/quick.rt:457:1
+-- src/field.rt:55:1
 returns-2 : tie.Need-returns-2
 unfolding itemForm
 returns-2 c = one-go _ _ _ _ _ _ _ _ _ (c .before .before .place-ends .ensures) (c .before .if1 .left) (one-last _ _ _ _ _ _ _ (c .expr-ends .ensures))

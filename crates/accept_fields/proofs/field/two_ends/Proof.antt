@@ -7,20 +7,20 @@ use Rattle.accept_fields.proofs.field.two_ends.Reads as reads
 use Rattle.accept_fields.proofs.field.two_ends.Lts as lts
 use Rattle.accept_exprs.proofs.expr.expr_ends.Reads as expr-ends-reads
 
--- src/quick.rt:433:9
+-- src/field.rt:29:9
 expr-ends-requires : tie.Need-expr-ends-requires
 expr-ends-requires c κs = search needs
 
--- src/quick.rt:435:9
+-- src/field.rt:31:9
 returns : tie.Need-returns
 unfolding itemForm
 returns c = one-stop _ _ _ _ _ _ _ _ (c .before .expr-ends .ensures) (c .if1 .taken)
 
--- src/quick.rt:437:5
+-- src/field.rt:33:5
 expr-ends-requires-2 : tie.Need-expr-ends-requires-2
 expr-ends-requires-2 c κs = search needs
 
--- src/quick.rt:430:1
+-- src/field.rt:26:1
 returns-2 : tie.Need-returns-2
 unfolding itemForm
 returns-2 c = one-go _ _ _ _ _ _ _ _ _ (c .before .before .expr-ends .ensures) (c .before .if1 .left) (one-last _ _ _ _ _ _ _ (c .expr-ends2 .ensures))

@@ -8,20 +8,20 @@ use Rattle.accept_fields.proofs.list.on_target_ends.Lts as lts
 use Rattle.accept_exprs.proofs.leaf.optional_label_ends.Reads as optional-label-ends-reads
 use Rattle.accept_exprs.proofs.leaf.range_ends.Reads as range-ends-reads
 
--- src/quick.rt:332:9
+-- src/list.rt:76:9
 range-ends-requires : tie.Need-range-ends-requires
 range-ends-requires c κs = search needs
 
--- src/quick.rt:334:9
+-- src/list.rt:78:9
 returns : tie.Need-returns
 unfolding pairForm itemForm
 returns c = λ t left. reach-stop _ _ _ _ (c .before .range-ends .ensures) (c .if1 .taken)
 
--- src/quick.rt:336:5
+-- src/list.rt:80:5
 optional-label-ends-requires : tie.Need-optional-label-ends-requires
 optional-label-ends-requires c κs = search needs
 
--- src/quick.rt:329:1
+-- src/list.rt:73:1
 returns-2 : tie.Need-returns-2
 unfolding pairForm itemForm
 returns-2 c = λ t left. reach-then _ _ _ _ _ (c .before .before .range-ends .ensures) (c .before .if1 .left) (c .optional-label-ends .ensures)

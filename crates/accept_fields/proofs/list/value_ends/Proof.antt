@@ -8,20 +8,20 @@ use Rattle.accept_fields.proofs.list.value_ends.Lts as lts
 use Rattle.accept_exprs.proofs.expr.expr_ends.Reads as expr-ends-reads
 use Rattle.accept_exprs.proofs.leaf.word_ends.Reads as word-ends-reads
 
--- src/quick.rt:350:9
+-- src/list.rt:94:9
 expr-ends-requires : tie.Need-expr-ends-requires
 expr-ends-requires c κs = search needs
 
--- src/quick.rt:352:9
+-- src/list.rt:96:9
 returns : tie.Need-returns
 unfolding pairForm itemForm
 returns c = reach-stop _ _ _ _ (c .before .expr-ends .ensures) (c .if1 .taken)
 
--- src/quick.rt:354:5
+-- src/list.rt:98:5
 word-ends-requires : tie.Need-word-ends-requires
 word-ends-requires c κs = search needs
 
--- src/quick.rt:340:1
+-- src/list.rt:84:1
 returns-2 : tie.Need-returns-2
 unfolding pairForm itemForm
 returns-2 c = reach-then _ _ _ _ _ (c .before .before .before .expr-ends .ensures) (c .before .before .if1 .left) (c .word-ends .ensures)

@@ -68,7 +68,7 @@ abbrev stmts-ends-below : ℕ → In 4 stmts-ends-kinds.ps
 stmts-ends-below t =
     and 4 stmts-ends-kinds.ps (falls 4 stmts-ends-kinds.ps _<_ μ-stmts-ends t) stmts-ends.Pre
 
--- src/quick.rt:724:9
+-- src/quick.rt:23:9
 if-ends-expr-ends-requires : (t : ℕ) → if-ends-lts.Need-expr-ends-requires (
   expr-ends-reads.Asked,
   expr-ends-reads.Learnt,
@@ -81,7 +81,7 @@ if-ends-expr-ends-requires : (t : ℕ) → if-ends-lts.Need-expr-ends-requires (
 ) (if-ends-at t) if-ends.Post
 if-ends-expr-ends-requires t c κs = search needs
 
--- src/quick.rt:726:9
+-- src/quick.rt:25:9
 if-ends-returns : (t : ℕ) → if-ends-lts.Need-returns (
   expr-ends-reads.Asked,
   expr-ends-reads.Learnt,
@@ -95,7 +95,7 @@ if-ends-returns : (t : ℕ) → if-ends-lts.Need-returns (
 unfolding itemForm
 if-ends-returns t c = one-stop _ _ _ _ _ _ _ _ (c .before .expr-ends .ensures) (c .if1 .taken)
 
--- src/quick.rt:728:9
+-- src/quick.rt:27:9
 if-ends-stmts-ends-requires : (t : ℕ) → if-ends-lts.Need-stmts-ends-requires (
   expr-ends-reads.Asked,
   expr-ends-reads.Learnt,
@@ -108,7 +108,7 @@ if-ends-stmts-ends-requires : (t : ℕ) → if-ends-lts.Need-stmts-ends-requires
 ) (if-ends-at t) if-ends.Post
 if-ends-stmts-ends-requires t c κs = omega (arith, (c .before .before .pre .0), reach-later (c .before .before .args .sheet .now .now) _ _ _ (node-step (c .before .before .args .sheet .now .now) (c .before .before .args .text .now .now) (lineFrom (c .before .before .args .base) (c .before .before .args .len)) (c .before .before .args .left) Expr (c .before .before .args .at)) (c .before .expr-ends .ensures) (c .if1 .left))
 
--- src/quick.rt:730:9
+-- src/quick.rt:29:9
 if-ends-returns-2 : (t : ℕ) → if-ends-lts.Need-returns-2 (
   expr-ends-reads.Asked,
   expr-ends-reads.Learnt,
@@ -122,7 +122,7 @@ if-ends-returns-2 : (t : ℕ) → if-ends-lts.Need-returns-2 (
 unfolding itemForm fieldForm timesForm
 if-ends-returns-2 t c = one-go _ _ _ _ _ _ _ _ _ (c .before .before .before .expr-ends .ensures) (c .before .before .if1 .left) (field-stop _ _ _ _ _ _ _ _ (c .before .stmts-ends .ensures) (c .if2 .taken))
 
--- src/quick.rt:732:8
+-- src/quick.rt:31:8
 if-ends-is-absent-requires : (t : ℕ) → if-ends-lts.Need-is-absent-requires (
   expr-ends-reads.Asked,
   expr-ends-reads.Learnt,
@@ -135,7 +135,7 @@ if-ends-is-absent-requires : (t : ℕ) → if-ends-lts.Need-is-absent-requires (
 ) (if-ends-at t) if-ends.Post
 if-ends-is-absent-requires t c κs = search needs
 
--- src/quick.rt:733:9
+-- src/quick.rt:32:9
 if-ends-word-ends-requires : (t : ℕ) → if-ends-lts.Need-word-ends-requires (
   expr-ends-reads.Asked,
   expr-ends-reads.Learnt,
@@ -148,7 +148,7 @@ if-ends-word-ends-requires : (t : ℕ) → if-ends-lts.Need-word-ends-requires (
 ) (if-ends-at t) if-ends.Post
 if-ends-word-ends-requires t c κs = search needs
 
--- src/quick.rt:733:9
+-- src/quick.rt:32:9
 if-ends-returns-3 : (t : ℕ) → if-ends-lts.Need-returns-3 (
   expr-ends-reads.Asked,
   expr-ends-reads.Learnt,
@@ -162,7 +162,7 @@ if-ends-returns-3 : (t : ℕ) → if-ends-lts.Need-returns-3 (
 unfolding itemForm fieldForm timesForm
 if-ends-returns-3 t c = one-go _ _ _ _ _ _ _ _ _ (c .before .before .before .before .before .before .before .before .expr-ends .ensures) (c .before .before .before .before .before .before .before .if1 .left) (field-go _ _ _ _ _ _ _ _ _ (c .before .before .before .before .before .before .stmts-ends .ensures) (c .before .before .before .before .before .if2 .left) (field-last _ _ _ _ _ _ _ (reach-yes _ _ _ _ _ _ (told _ _ _ (c .before .before .before .is-absent .ensures) (c .before .before .if3 .taken)) (c .word-ends .ensures))))
 
--- src/quick.rt:735:5
+-- src/quick.rt:34:5
 if-ends-stmts-ends-requires-2 : (t : ℕ) → if-ends-lts.Need-stmts-ends-requires-2 (
   expr-ends-reads.Asked,
   expr-ends-reads.Learnt,
@@ -175,7 +175,7 @@ if-ends-stmts-ends-requires-2 : (t : ℕ) → if-ends-lts.Need-stmts-ends-requir
 ) (if-ends-at t) if-ends.Post
 if-ends-stmts-ends-requires-2 t c κs = omega (arith, (c .before .before .before .before .before .before .before .pre .0), reach-later (c .before .before .before .before .before .before .before .args .sheet .now .now) _ _ _ (node-step (c .before .before .before .before .before .before .before .args .sheet .now .now) (c .before .before .before .before .before .before .before .args .text .now .now) (lineFrom (c .before .before .before .before .before .before .before .args .base) (c .before .before .before .before .before .before .before .args .len)) (c .before .before .before .before .before .before .before .args .left) Expr (c .before .before .before .before .before .before .before .args .at)) (c .before .before .before .before .before .before .expr-ends .ensures) (c .before .before .before .before .before .if1 .left), reach-later (c .before .before .before .before .before .before .before .args .sheet .now .now) _ _ _ (list-step (c .before .before .before .before .before .before .before .args .sheet .now .now) (c .before .before .before .before .before .before .before .args .text .now .now) (lineFrom (c .before .before .before .before .before .before .before .args .base) (c .before .before .before .before .before .before .before .args .len)) (pairForm (c .before .before .before .before .before .before .before .args .sheet .now .now) (c .before .before .before .before .before .before .before .args .text .now .now) (lineFrom (c .before .before .before .before .before .before .before .args .base) (c .before .before .before .before .before .before .before .args .len)) (nodeForm (c .before .before .before .before .before .before .before .args .sheet .now .now) (c .before .before .before .before .before .before .before .args .text .now .now) (lineFrom (c .before .before .before .before .before .before .before .args .base) (c .before .before .before .before .before .before .before .args .len)) (c .before .before .before .before .before .before .before .args .left)) stmt Nothing) (pair-step (c .before .before .before .before .before .before .before .args .sheet .now .now) (c .before .before .before .before .before .before .before .args .text .now .now) (lineFrom (c .before .before .before .before .before .before .before .args .base) (c .before .before .before .before .before .before .before .args .len)) (nodeForm (c .before .before .before .before .before .before .before .args .sheet .now .now) (c .before .before .before .before .before .before .before .args .text .now .now) (lineFrom (c .before .before .before .before .before .before .before .args .base) (c .before .before .before .before .before .before .before .args .len)) (c .before .before .before .before .before .before .before .args .left)) (node-step (c .before .before .before .before .before .before .before .args .sheet .now .now) (c .before .before .before .before .before .before .before .args .text .now .now) (lineFrom (c .before .before .before .before .before .before .before .args .base) (c .before .before .before .before .before .before .before .args .len)) (c .before .before .before .before .before .before .before .args .left)) stmt Nothing) (c .before .before .before .before .before .before .expr-ends .result)) (c .before .before .before .before .stmts-ends .ensures) (c .before .before .before .if2 .left))
 
--- src/quick.rt:721:1
+-- src/quick.rt:20:1
 if-ends-returns-4 : (t : ℕ) → if-ends-lts.Need-returns-4 (
   expr-ends-reads.Asked,
   expr-ends-reads.Learnt,
@@ -189,7 +189,7 @@ if-ends-returns-4 : (t : ℕ) → if-ends-lts.Need-returns-4 (
 unfolding itemForm fieldForm timesForm
 if-ends-returns-4 t c = one-go _ _ _ _ _ _ _ _ _ (c .before .before .before .before .before .before .before .expr-ends .ensures) (c .before .before .before .before .before .before .if1 .left) (field-go _ _ _ _ _ _ _ _ _ (c .before .before .before .before .before .stmts-ends .ensures) (c .before .before .before .before .if2 .left) (field-last _ _ _ _ _ _ _ (reach-no _ _ _ _ _ _ (told _ _ _ (c .before .before .is-absent .ensures) (c .before .if3 .left)) (c .stmts-ends2 .ensures))))
 
--- src/quick.rt:749:9
+-- src/quick.rt:48:9
 stmt-ends-head-ends-requires : (t : ℕ) → stmt-ends-lts.Need-head-ends-requires (
   head-ends-reads.Asked,
   head-ends-reads.Learnt,
@@ -208,7 +208,7 @@ stmt-ends-head-ends-requires : (t : ℕ) → stmt-ends-lts.Need-head-ends-requir
 ) (stmt-ends-at t) stmt-ends.Post
 stmt-ends-head-ends-requires t c κs = search needs
 
--- src/quick.rt:751:9
+-- src/quick.rt:50:9
 stmt-ends-returns : (t : ℕ) → stmt-ends-lts.Need-returns (
   head-ends-reads.Asked,
   head-ends-reads.Learnt,
@@ -227,7 +227,7 @@ stmt-ends-returns : (t : ℕ) → stmt-ends-lts.Need-returns (
 ) (stmt-ends-at t) stmt-ends.Post
 stmt-ends-returns t c = head-stops (c .before .before .before .args .sheet .now .now) (c .before .before .before .args .text .now .now) (lineFrom (c .before .before .before .args .base) (c .before .before .before .args .len)) _ _ _ _ (c .before .head-ends .ensures) (c .if1 .taken)
 
--- src/quick.rt:753:9
+-- src/quick.rt:52:9
 stmt-ends-payload-at-requires : (t : ℕ) → stmt-ends-lts.Need-payload-at-requires (
   head-ends-reads.Asked,
   head-ends-reads.Learnt,
@@ -246,7 +246,7 @@ stmt-ends-payload-at-requires : (t : ℕ) → stmt-ends-lts.Need-payload-at-requ
 ) (stmt-ends-at t) stmt-ends.Post
 stmt-ends-payload-at-requires t c κs = search needs
 
--- src/quick.rt:754:8
+-- src/quick.rt:53:8
 stmt-ends-is-fseek-requires : (t : ℕ) → stmt-ends-lts.Need-is-fseek-requires (
   head-ends-reads.Asked,
   head-ends-reads.Learnt,
@@ -265,7 +265,7 @@ stmt-ends-is-fseek-requires : (t : ℕ) → stmt-ends-lts.Need-is-fseek-requires
 ) (stmt-ends-at t) stmt-ends.Post
 stmt-ends-is-fseek-requires t c κs = search needs
 
--- src/quick.rt:755:9
+-- src/quick.rt:54:9
 stmt-ends-returns-2 : (t : ℕ) → stmt-ends-lts.Need-returns-2 (
   head-ends-reads.Asked,
   head-ends-reads.Learnt,
@@ -284,7 +284,7 @@ stmt-ends-returns-2 : (t : ℕ) → stmt-ends-lts.Need-returns-2 (
 ) (stmt-ends-at t) stmt-ends.Post
 stmt-ends-returns-2 t c = fseek-stops (c .before .before .before .before .before .before .before .args .sheet .now .now) (c .before .before .before .before .before .before .before .args .text .now .now) (lineFrom (c .before .before .before .before .before .before .before .args .base) (c .before .before .before .before .before .before .before .args .len)) _ _ _ _ _ _ (c .before .before .before .before .before .head-ends .ensures) (c .before .before .before .before .if1 .left) (c .before .before .payload-at .ensures) (c .before .is-fseek .ensures) (c .if2 .taken)
 
--- src/quick.rt:758:9
+-- src/quick.rt:57:9
 stmt-ends-returns-3 : (t : ℕ) → stmt-ends-lts.Need-returns-3 (
   head-ends-reads.Asked,
   head-ends-reads.Learnt,
@@ -303,7 +303,7 @@ stmt-ends-returns-3 : (t : ℕ) → stmt-ends-lts.Need-returns-3 (
 ) (stmt-ends-at t) stmt-ends.Post
 stmt-ends-returns-3 t c = depth-stops (c .before .before .before .before .before .before .before .before .args .sheet .now .now) (c .before .before .before .before .before .before .before .before .args .text .now .now) (lineFrom (c .before .before .before .before .before .before .before .before .args .base) (c .before .before .before .before .before .before .before .before .args .len)) _ _ _ _ (c .before .before .before .before .before .before .head-ends .ensures) (c .before .before .before .before .before .if1 .left) (c .if3 .taken)
 
--- src/quick.rt:760:9
+-- src/quick.rt:59:9
 stmt-ends-range-ends-requires : (t : ℕ) → stmt-ends-lts.Need-range-ends-requires (
   head-ends-reads.Asked,
   head-ends-reads.Learnt,
@@ -322,7 +322,7 @@ stmt-ends-range-ends-requires : (t : ℕ) → stmt-ends-lts.Need-range-ends-requ
 ) (stmt-ends-at t) stmt-ends.Post
 stmt-ends-range-ends-requires t c κs = search needs
 
--- src/quick.rt:762:9
+-- src/quick.rt:61:9
 stmt-ends-returns-4 : (t : ℕ) → stmt-ends-lts.Need-returns-4 (
   head-ends-reads.Asked,
   head-ends-reads.Learnt,
@@ -341,7 +341,7 @@ stmt-ends-returns-4 : (t : ℕ) → stmt-ends-lts.Need-returns-4 (
 ) (stmt-ends-at t) stmt-ends.Post
 stmt-ends-returns-4 t c = stmt-own-stops (c .before .before .before .before .before .before .before .before .before .before .before .args .sheet .now .now) (c .before .before .before .before .before .before .before .before .before .before .before .args .text .now .now) (lineFrom (c .before .before .before .before .before .before .before .before .before .before .before .args .base) (c .before .before .before .before .before .before .before .before .before .before .before .args .len)) _ _ _ _ _ _ (c .before .before .before .before .before .before .before .before .before .head-ends .ensures) (c .before .before .before .before .before .before .before .before .if1 .left) (c .before .before .before .before .before .before .payload-at .ensures) (c .before .before .before .before .before .is-fseek .ensures) (c .before .before .before .before .if2 .left) (c .before .before .before .if3 .left) (c .before .range-ends .ensures) (c .if4 .taken)
 
--- src/quick.rt:764:9
+-- src/quick.rt:63:9
 stmt-ends-shape-of-requires : (t : ℕ) → stmt-ends-lts.Need-shape-of-requires (
   head-ends-reads.Asked,
   head-ends-reads.Learnt,
@@ -360,7 +360,7 @@ stmt-ends-shape-of-requires : (t : ℕ) → stmt-ends-lts.Need-shape-of-requires
 ) (stmt-ends-at t) stmt-ends.Post
 stmt-ends-shape-of-requires t c κs = search needs
 
--- src/quick.rt:766:48
+-- src/quick.rt:65:48
 stmt-ends-sub-if-ends : (t : ℕ) → stmt-ends-lts.Need-sub-if-ends (
   head-ends-reads.Asked,
   head-ends-reads.Learnt,
@@ -379,7 +379,7 @@ stmt-ends-sub-if-ends : (t : ℕ) → stmt-ends-lts.Need-sub-if-ends (
 ) (stmt-ends-at t) stmt-ends.Post
 stmt-ends-sub-if-ends t c = search needs
 
--- src/quick.rt:766:9
+-- src/quick.rt:65:9
 stmt-ends-if-ends-requires : (t : ℕ) → stmt-ends-lts.Need-if-ends-requires (
   head-ends-reads.Asked,
   head-ends-reads.Learnt,
@@ -398,7 +398,7 @@ stmt-ends-if-ends-requires : (t : ℕ) → stmt-ends-lts.Need-if-ends-requires (
 ) (stmt-ends-at t) stmt-ends.Post
 stmt-ends-if-ends-requires t c κs = let h = head-moves (c .before .before .before .before .before .before .before .before .before .before .before .before .before .args .sheet .now .now) Stmt (c .before .before .before .before .before .before .before .before .before .before .before .before .before .args .at) _ _ refl ((c .before .before .before .before .before .before .before .before .before .before .before .head-ends .ensures .0) (c .before .before .before .before .before .before .before .before .before .before .if1 .left)) in omega (arith, (c .before .before .before .before .before .before .before .before .before .before .before .before .before .pre .0), h .0, h .1, reach-later (c .before .before .before .before .before .before .before .before .before .before .before .before .before .args .sheet .now .now) _ _ _ (range-step (c .before .before .before .before .before .before .before .before .before .before .before .before .before .args .sheet .now .now) (lineFrom (c .before .before .before .before .before .before .before .before .before .before .before .before .before .args .base) (c .before .before .before .before .before .before .before .before .before .before .before .before .before .args .len)) (c .before .before .before .before .before .before .before .before .before .before .before .head-ends .result)) (c .before .before .before .range-ends .ensures) (c .before .before .if4 .left))
 
--- src/quick.rt:766:9
+-- src/quick.rt:65:9
 stmt-ends-returns-5 : (t : ℕ) → stmt-ends-lts.Need-returns-5 (
   head-ends-reads.Asked,
   head-ends-reads.Learnt,
@@ -417,7 +417,7 @@ stmt-ends-returns-5 : (t : ℕ) → stmt-ends-lts.Need-returns-5 (
 ) (stmt-ends-at t) stmt-ends.Post
 stmt-ends-returns-5 t c = stmt-fields (c .before .before .before .before .before .before .before .before .before .before .before .before .before .before .args .sheet .now .now) (c .before .before .before .before .before .before .before .before .before .before .before .before .before .before .args .text .now .now) (lineFrom (c .before .before .before .before .before .before .before .before .before .before .before .before .before .before .args .base) (c .before .before .before .before .before .before .before .before .before .before .before .before .before .before .args .len)) _ _ _ _ _ (c .before .before .shape-of .result) _ _ (c .before .before .before .before .before .before .before .before .before .before .before .before .head-ends .ensures) (c .before .before .before .before .before .before .before .before .before .before .before .if1 .left) (c .before .before .before .before .before .before .before .before .before .payload-at .ensures) (c .before .before .before .before .before .before .before .before .is-fseek .ensures) (c .before .before .before .before .before .before .before .if2 .left) (c .before .before .before .before .before .before .if3 .left) (c .before .before .before .before .range-ends .ensures) (c .before .before .before .if4 .left) (c .before .before .shape-of .ensures .0) (rw (c .before .if5 .taken) (c .if-ends .ensures))
 
--- src/quick.rt:768:40
+-- src/quick.rt:67:40
 stmt-ends-sub-plain-ends : (t : ℕ) → stmt-ends-lts.Need-sub-plain-ends (
   head-ends-reads.Asked,
   head-ends-reads.Learnt,
@@ -436,7 +436,7 @@ stmt-ends-sub-plain-ends : (t : ℕ) → stmt-ends-lts.Need-sub-plain-ends (
 ) (stmt-ends-at t) stmt-ends.Post
 stmt-ends-sub-plain-ends t c = search needs
 
--- src/quick.rt:768:5
+-- src/quick.rt:67:5
 stmt-ends-plain-ends-requires : (t : ℕ) → stmt-ends-lts.Need-plain-ends-requires (
   head-ends-reads.Asked,
   head-ends-reads.Learnt,
@@ -455,7 +455,7 @@ stmt-ends-plain-ends-requires : (t : ℕ) → stmt-ends-lts.Need-plain-ends-requ
 ) (stmt-ends-at t) stmt-ends.Post
 stmt-ends-plain-ends-requires t c κs = search needs
 
--- src/quick.rt:739:1
+-- src/quick.rt:38:1
 stmt-ends-returns-6 : (t : ℕ) → stmt-ends-lts.Need-returns-6 (
   head-ends-reads.Asked,
   head-ends-reads.Learnt,
@@ -480,7 +480,7 @@ stmts-ends-Inv-loop sheet text base len left at q p₀ n₀ p n = (p₀ ≤ p) �
 abbrev stmts-ends-μ-loop : stmts-ends-lts.MeasureT-loop
 stmts-ends-μ-loop sheet text base len left at q p₀ n₀ p n = n
 
--- src/quick.rt:782:9
+-- src/quick.rt:81:9
 stmts-ends-word-ends-requires : (t : ℕ) → stmts-ends-lts.Need-word-ends-requires (
   word-ends-reads.Asked,
   word-ends-reads.Learnt,
@@ -491,7 +491,7 @@ stmts-ends-word-ends-requires : (t : ℕ) → stmts-ends-lts.Need-word-ends-requ
 ) (stmts-ends-at t) stmts-ends.Post stmts-ends-Inv-loop stmts-ends-μ-loop
 stmts-ends-word-ends-requires t c κs = search needs
 
--- src/quick.rt:784:9
+-- src/quick.rt:83:9
 stmts-ends-returns : (t : ℕ) → stmts-ends-lts.Need-returns (
   word-ends-reads.Asked,
   word-ends-reads.Learnt,
@@ -503,7 +503,7 @@ stmts-ends-returns : (t : ℕ) → stmts-ends-lts.Need-returns (
 unfolding listForm
 stmts-ends-returns t c = reach-stop _ _ _ _ (c .before .word-ends .ensures) (c .if1 .taken)
 
--- src/quick.rt:787:9
+-- src/quick.rt:86:9
 stmts-ends-payload-at-requires : (t : ℕ) → stmts-ends-lts.Need-payload-at-requires (
   word-ends-reads.Asked,
   word-ends-reads.Learnt,
@@ -514,7 +514,7 @@ stmts-ends-payload-at-requires : (t : ℕ) → stmts-ends-lts.Need-payload-at-re
 ) (stmts-ends-at t) stmts-ends.Post stmts-ends-Inv-loop stmts-ends-μ-loop
 stmts-ends-payload-at-requires t c κs = search needs
 
--- src/quick.rt:788:5
+-- src/quick.rt:87:5
 stmts-ends-loop-holds : (t : ℕ) → stmts-ends-lts.Need-loop-holds (
   word-ends-reads.Asked,
   word-ends-reads.Learnt,
@@ -525,7 +525,7 @@ stmts-ends-loop-holds : (t : ℕ) → stmts-ends-lts.Need-loop-holds (
 ) (stmts-ends-at t) stmts-ends.Post stmts-ends-Inv-loop stmts-ends-μ-loop
 stmts-ends-loop-holds t c = (omega arith, refl)
 
--- src/quick.rt:789:13
+-- src/quick.rt:88:13
 stmts-ends-stmt-ends-requires : (t : ℕ) → stmts-ends-lts.Need-stmt-ends-requires (
   word-ends-reads.Asked,
   word-ends-reads.Learnt,
@@ -536,7 +536,7 @@ stmts-ends-stmt-ends-requires : (t : ℕ) → stmts-ends-lts.Need-stmt-ends-requ
 ) (stmts-ends-at t) stmts-ends.Post stmts-ends-Inv-loop stmts-ends-μ-loop
 stmts-ends-stmt-ends-requires t c κs = omega (arith, (c .before .before .before .before .before .before .before .pre .0), (c .before .loop .inv .0), reach-later (c .before .before .before .before .before .before .before .args .sheet .now .now) _ _ _ (word-step (c .before .before .before .before .before .before .before .args .sheet .now .now) 4 16777216 (c .before .before .before .before .before .before .before .args .at)) (c .before .before .before .before .before .word-ends .ensures) (c .before .before .before .before .if1 .left))
 
--- src/quick.rt:791:13
+-- src/quick.rt:90:13
 stmts-ends-returns-2 : (t : ℕ) → stmts-ends-lts.Need-returns-2 (
   word-ends-reads.Asked,
   word-ends-reads.Learnt,
@@ -548,7 +548,7 @@ stmts-ends-returns-2 : (t : ℕ) → stmts-ends-lts.Need-returns-2 (
 unfolding listForm
 stmts-ends-returns-2 t c = reach-then _ _ _ _ _ (c .before .before .before .before .before .before .before .word-ends .ensures) (c .before .before .before .before .before .before .if1 .left) (repeat-stops (c .before .before .before .before .before .before .before .before .before .args .sheet .now .now) (c .before .before .before .before .before .before .before .before .before .args .text .now .now) (lineFrom (c .before .before .before .before .before .before .before .before .before .args .base) (c .before .before .before .before .before .before .before .before .before .args .len)) (pairForm (c .before .before .before .before .before .before .before .before .before .args .sheet .now .now) (c .before .before .before .before .before .before .before .before .before .args .text .now .now) (lineFrom (c .before .before .before .before .before .before .before .before .before .args .base) (c .before .before .before .before .before .before .before .before .before .args .len)) (nodeForm (c .before .before .before .before .before .before .before .before .before .args .sheet .now .now) (c .before .before .before .before .before .before .before .before .before .args .text .now .now) (lineFrom (c .before .before .before .before .before .before .before .before .before .args .base) (c .before .before .before .before .before .before .before .before .before .args .len)) (c .before .before .before .before .before .before .before .before .before .args .left)) stmt Nothing) _ _ _ _ _ _ (c .before .before .loop-test .taken) (reach-alone (c .before .before .before .before .before .before .before .before .before .args .sheet .now .now) (c .before .before .before .before .before .before .before .before .before .args .text .now .now) (lineFrom (c .before .before .before .before .before .before .before .before .before .args .base) (c .before .before .before .before .before .before .before .before .before .args .len)) (nodeForm (c .before .before .before .before .before .before .before .before .before .args .sheet .now .now) (c .before .before .before .before .before .before .before .before .before .args .text .now .now) (lineFrom (c .before .before .before .before .before .before .before .before .before .args .base) (c .before .before .before .before .before .before .before .before .before .args .len)) (c .before .before .before .before .before .before .before .before .before .args .left)) Stmt _ _ (c .before .stmt-ends .ensures)) (c .if2 .taken) (c .before .before .before .loop .inv .0) (c .before .before .before .loop .inv .1) (c .before .before .before .before .payload-at .ensures))
 
--- src/quick.rt:794:9
+-- src/quick.rt:93:9
 stmts-ends-sub-n : (t : ℕ) → stmts-ends-lts.Need-sub-n (
   word-ends-reads.Asked,
   word-ends-reads.Learnt,
@@ -559,7 +559,7 @@ stmts-ends-sub-n : (t : ℕ) → stmts-ends-lts.Need-sub-n (
 ) (stmts-ends-at t) stmts-ends.Post stmts-ends-Inv-loop stmts-ends-μ-loop
 stmts-ends-sub-n t c = search needs
 
--- src/quick.rt:788:5
+-- src/quick.rt:87:5
 stmts-ends-loop-less : (t : ℕ) → stmts-ends-lts.Need-loop-less (
   word-ends-reads.Asked,
   word-ends-reads.Learnt,
@@ -570,7 +570,7 @@ stmts-ends-loop-less : (t : ℕ) → stmts-ends-lts.Need-loop-less (
 ) (stmts-ends-at t) stmts-ends.Post stmts-ends-Inv-loop stmts-ends-μ-loop
 stmts-ends-loop-less t c = omega (arith, (c .before .before .loop-test .taken))
 
--- src/quick.rt:788:5
+-- src/quick.rt:87:5
 stmts-ends-loop-again : (t : ℕ) → stmts-ends-lts.Need-loop-again (
   word-ends-reads.Asked,
   word-ends-reads.Learnt,
@@ -581,7 +581,7 @@ stmts-ends-loop-again : (t : ℕ) → stmts-ends-lts.Need-loop-again (
 ) (stmts-ends-at t) stmts-ends.Post stmts-ends-Inv-loop stmts-ends-μ-loop
 stmts-ends-loop-again t c = (omega (arith, (c .before .before .before .loop .inv .0), reach-later (c .before .before .before .before .before .before .before .before .before .args .sheet .now .now) _ _ _ (node-step (c .before .before .before .before .before .before .before .before .before .args .sheet .now .now) (c .before .before .before .before .before .before .before .before .before .args .text .now .now) (lineFrom (c .before .before .before .before .before .before .before .before .before .args .base) (c .before .before .before .before .before .before .before .before .before .args .len)) (c .before .before .before .before .before .before .before .before .before .args .left) Stmt (c .before .before .before .loop .p)) (c .before .stmt-ends .ensures) (c .if2 .left)), repeat-step (c .before .before .before .before .before .before .before .before .before .args .sheet .now .now) (c .before .before .before .before .before .before .before .before .before .args .text .now .now) (lineFrom (c .before .before .before .before .before .before .before .before .before .args .base) (c .before .before .before .before .before .before .before .before .before .args .len)) (pairForm (c .before .before .before .before .before .before .before .before .before .args .sheet .now .now) (c .before .before .before .before .before .before .before .before .before .args .text .now .now) (lineFrom (c .before .before .before .before .before .before .before .before .before .args .base) (c .before .before .before .before .before .before .before .before .before .args .len)) (nodeForm (c .before .before .before .before .before .before .before .before .before .args .sheet .now .now) (c .before .before .before .before .before .before .before .before .before .args .text .now .now) (lineFrom (c .before .before .before .before .before .before .before .before .before .args .base) (c .before .before .before .before .before .before .before .before .before .args .len)) (c .before .before .before .before .before .before .before .before .before .args .left)) stmt Nothing) _ _ _ _ _ (c .before .before .loop-test .taken) refl ((reach-alone (c .before .before .before .before .before .before .before .before .before .args .sheet .now .now) (c .before .before .before .before .before .before .before .before .before .args .text .now .now) (lineFrom (c .before .before .before .before .before .before .before .before .before .args .base) (c .before .before .before .before .before .before .before .before .before .args .len)) (nodeForm (c .before .before .before .before .before .before .before .before .before .args .sheet .now .now) (c .before .before .before .before .before .before .before .before .before .args .text .now .now) (lineFrom (c .before .before .before .before .before .before .before .before .before .args .base) (c .before .before .before .before .before .before .before .before .before .args .len)) (c .before .before .before .before .before .before .before .before .before .args .left)) Stmt _ _ (c .before .stmt-ends .ensures)) .0 (c .if2 .left)) (c .before .before .before .loop .inv .1))
 
--- src/quick.rt:772:1
+-- src/quick.rt:71:1
 stmts-ends-returns-3 : (t : ℕ) → stmts-ends-lts.Need-returns-3 (
   word-ends-reads.Asked,
   word-ends-reads.Learnt,
