@@ -12,7 +12,7 @@ use Rattle.compiler.proofs.refuse.Reads as refuse-reads
 use Rattle.recorder.proofs.codegen.clear.Reads as clear-reads
 use Rattle.sheet.proofs.form.refusal_number.Reads as refusal-number-reads
 use Rattle.sheet.proofs.form.refusal_place.Reads as refusal-place-reads
-use Rattle.walk.proofs.check.Reads as check-reads
+use Rattle.acceptance.proofs.check.Reads as check-reads
 
 -- src/lib.rt:114:9
 check-requires : tie.Need-check-requires

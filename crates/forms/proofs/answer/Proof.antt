@@ -7,7 +7,7 @@ use Rattle.forms.proofs.answer.Reads as reads
 use Rattle.forms.proofs.answer.Lts as lts
 use Rattle.feed.proofs.least.Reads as least-reads
 use Rattle.forms.proofs.show.Reads as show-reads
-use Rattle.walk.proofs.check.Reads as check-reads
+use Rattle.acceptance.proofs.check.Reads as check-reads
 
 -- src/main.rt:15:9
 least-requires : tie.Need-least-requires

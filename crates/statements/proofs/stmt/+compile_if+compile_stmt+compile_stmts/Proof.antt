@@ -32,7 +32,7 @@ use Rattle.recorder.proofs.word.behind.Reads as behind-reads
 use Rattle.recorder.proofs.word.payload_at.Reads as payload-at-reads
 use Rattle.sheet.proofs.leaf.is_absent.Reads as is-absent-reads
 use Rattle.statements.proofs.plain.compile_plain.Reads as compile-plain-reads
-use Rattle.statements.proofs.shape.shape_of.Reads as shape-of-reads
+use Rattle.walk.proofs.shape.shape_of.Reads as shape-of-reads
 use Rattle.statements.proofs.stmt.else_head.Reads as else-head-reads
 use Rattle.statements.proofs.stmt.end_here.Reads as end-here-reads
 use Rattle.statements.proofs.stmt.if_head.Reads as if-head-reads
