@@ -122,25 +122,24 @@ positive zero h = absurd (h refl)
 positive (suc n) h = omega arith
 
 -- the name is where its descent ends, in a tree
-pub no-root : (t b : List ℕ) (root end at x n g : ℕ) → root ≡ 0 → false ≡ both (ltb 0 root) (both (ltb at end) (namedAt t b at x n g))
-no-root t b root end at x n g e = rw (le-ltb 0 root (omega arith))
+pub no-root : (root end at : ℕ) (f : Bool) → root ≡ 0 → false ≡ both (ltb 0 root) (both (ltb at end) f)
+no-root root end at f e = rw (le-ltb 0 root (omega arith))
 
-pub not-in : (t b : List ℕ) (root end at x n g : ℕ) → end ≤ at → false ≡ both (ltb 0 root) (both (ltb at end) (namedAt t b at x n g))
-not-in t b root end at x n g e = rw (le-ltb at end e, both-false (ltb 0 root))
+pub not-in : (root end at : ℕ) (f : Bool) → end ≤ at → false ≡ both (ltb 0 root) (both (ltb at end) f)
+not-in root end at f e = rw (le-ltb at end e, both-false (ltb 0 root))
 
-pub in-tree : (t b : List ℕ) (root end at x n g : ℕ) (f : Bool) → (root ≡ 0 → ⊥) → at < end → f ≡ namedAt t b at x n g
-    → f ≡ both (ltb 0 root) (both (ltb at end) (namedAt t b at x n g))
-in-tree t b root end at x n g f h i e = rw (lt-ltb 0 root (omega (arith, positive root h)), lt-ltb at end i) e
+pub in-tree : (root end at : ℕ) (f : Bool) → (root ≡ 0 → ⊥) → at < end → f ≡ both (ltb 0 root) (both (ltb at end) f)
+in-tree root end at f h i = rw (lt-ltb 0 root (omega (arith, positive root h)), lt-ltb at end i)
 
 -- a name's entry: in the tree, or past it
-pub seek-reached : (t b : List ℕ) (st : St) (x n g end at : ℕ) (f : Bool) → end ≡ known b st → f ≡ both (ltb 0 (st .root)) (both (ltb at end) (namedAt t b at x n g)) → f ≡ true
-    → at ≡ pick (both (ltb 0 (st .root)) (both (ltb at (known b st)) (namedAt t b at x n g))) at (lookup t b x n g (min (known b st) 32768) (known b st - 32768))
-seek-reached t b st x n g end at f e i j = rw (← e, ← i, j)
+pub seek-reached : (t b : List ℕ) (st : St) (x n g end at : ℕ) (f r : Bool) → end ≡ known b st → r ≡ both (ltb 0 (st .root)) (both (ltb at end) f) → r ≡ true
+    → at ≡ pick (both (ltb 0 (st .root)) (both (ltb at (known b st)) f)) at (lookup t b x n g (min (known b st) 32768) (known b st - 32768))
+seek-reached t b st x n g end at f r e i j = rw (← e, ← i, j)
 
-pub seek-past : (t b : List ℕ) (st : St) (x n g end at from k : ℕ) (f : Bool) → end ≡ known b st → f ≡ both (ltb 0 (st .root)) (both (ltb at end) (namedAt t b at x n g)) → f ≡ false
+pub seek-past : (t b : List ℕ) (st : St) (x n g end at from k : ℕ) (f r : Bool) → end ≡ known b st → r ≡ both (ltb 0 (st .root)) (both (ltb at end) f) → r ≡ false
     → from ≡ min end 32768 → k ≡ lookup t b x n g from (known b st - from)
-    → k ≡ pick (both (ltb 0 (st .root)) (both (ltb at (known b st)) (namedAt t b at x n g))) at (lookup t b x n g (min (known b st) 32768) (known b st - 32768))
-seek-past t b st x n g end at from k f e i j o p =
+    → k ≡ pick (both (ltb 0 (st .root)) (both (ltb at (known b st)) f)) at (lookup t b x n g (min (known b st) 32768) (known b st - 32768))
+seek-past t b st x n g end at from k f r e i j o p =
     let q : known b st - from ≡ known b st - 32768 = omega arith in
     rw (← e, ← i, j) (p ∙ rw (q, o, e))
 
@@ -196,11 +195,11 @@ entry-same : (b b₁ : List ℕ) (st : St) → length b₁ ≡ length b → entr
 unfolding entrySt
 entry-same b b₁ st e = rw e
 
-pub sought : (t b : List ℕ) (st : St) (x n g k : ℕ) (w : Descent) → w ≡ descentTo t b st x n g
-    → k ≡ pick (both (ltb 0 (st .root)) (both (ltb (w .at) (known b st)) (namedAt t b (w .at) x n g))) (w .at) (lookup t b x n g (min (known b st) 32768) (known b st - 32768))
+pub sought : (t b : List ℕ) (st : St) (x n g k : ℕ) (w : Descent) (f : Bool) → (w ≡ descentTo t b st x n g) × (f ≡ namedAt t b (w .at) x n g)
+    → k ≡ pick (both (ltb 0 (st .root)) (both (ltb (w .at) (known b st)) f)) (w .at) (lookup t b x n g (min (known b st) 32768) (known b st - 32768))
     → (w ≡ descentTo t b st x n g) × (k ≡ entryOf t b st x n g)
 unfolding entryOf
-sought t b st x n g k w a e = (a, e ∙ rw a)
+sought t b st x n g k w f a e = (a .0, e ∙ rw (a .1, a .0))
 
 pub new-name : (b b₁ b₂ : List ℕ) (st s s′ : St) (x n g c v u h o : ℕ) (w : Descent) → b₁ ≡ linked b st w
     → v ≡ low (st .names) → u ≡ more (st .names) (length b / 4) → o ≡ rootOf b st → h ≡ wordOf 50 v → c ≡ sigilCode g

@@ -37,21 +37,22 @@ pub const C: usize = 4;
 
 pub const EXTRA: usize = 3;
 
-// The counts, the numbers within the book's three kinds, the first name's entry plus 1 (0 without one), the current line with
-// its first datum plus 1 (0 while it has none), and whether something did not fit.
+// The counts of notes, entries and names, the first name's entry plus 1 (0 without one), the counts of data and bytes, whether
+// something did not fit, the current line with its first datum plus 1 (0 while it has none), and the count of records. What most
+// records change stands together at the end: in this order a state is copied with the fewest waits.
 pub struct St {
-    pub records: u32,
     pub notes: usize,
     pub entries: usize,
     pub names: usize,
     pub root: usize,
     pub datums: usize,
     pub bytes: usize,
-    pub line: u32,
-    pub first: u32,
     pub lfull: bool,
     pub nfull: bool,
     pub bfull: bool,
+    pub line: u32,
+    pub first: u32,
+    pub records: u32,
 }
 
 // A symbol: its number among the names.
@@ -64,6 +65,12 @@ pub struct Named {
 pub struct Descent {
     pub at: usize,
     pub bits: u32,
+}
+
+// Where the descent to a name stops, and whether that entry is the name.
+pub struct Stop {
+    pub descent: Descent,
+    pub named: bool,
 }
 
 // What the search for a name finds: where its descent ends, and its entry, or how many are known.
@@ -516,8 +523,8 @@ fn child_of(book: &[u32], at: usize, bits: u32) -> usize
 }
 
 // The descent to a name, up to the name or to where it would be linked.
-fn descent_to(text: &[u16], book: &[u32], st: St, start: u32, len: u32, sigil: u32) -> Descent
-    ensures { λ r. ⌜ r ≡ descentTo (now (text .entry)) (now (book .entry)) st start len sigil ⌝ }
+fn descent_to(text: &[u16], book: &[u32], st: St, start: u32, len: u32, sigil: u32) -> Stop
+    ensures { λ r. ⌜ (r .descent ≡ descentTo (now (text .entry)) (now (book .entry)) st start len sigil) × (r .named ≡ namedAt (now (text .entry)) (now (book .entry)) (r .descent .at) start len sigil) ⌝ }
 {
     let end = least(st.entries, book.len() / ENTRY);
     let mut at = less(st.root, 1);
@@ -526,19 +533,33 @@ fn descent_to(text: &[u16], book: &[u32], st: St, start: u32, len: u32, sigil: u
     while 0 < left {
         left -= 1;
         if named_at(&*text, &*book, at, start, len, sigil) {
-            return Descent { at, bits };
+            let descent = Descent { at, bits };
+            return Stop {
+                descent,
+                named: true,
+            };
         }
         let k = child_of(&*book, at, bits);
         if k <= at {
-            return Descent { at, bits };
+            let descent = Descent { at, bits };
+            return Stop {
+                descent,
+                named: false,
+            };
         }
         if end <= k {
-            return Descent { at, bits };
+            let descent = Descent { at, bits };
+            return Stop {
+                descent,
+                named: false,
+            };
         }
         at = k;
         bits = next_bits(bits);
     }
-    Descent { at, bits }
+    let descent = Descent { at, bits };
+    let named = named_at(&*text, &*book, at, start, len, sigil);
+    Stop { descent, named }
 }
 
 fn may_link(st: St, room: usize) -> bool
@@ -584,17 +605,8 @@ fn link_next(book: &mut [u32], st: St, at: usize, bits: u32)
 }
 
 // Whether the descent in a tree ended at the name itself.
-fn is_reached(
-    text: &[u16],
-    book: &[u32],
-    root: usize,
-    known: usize,
-    at: usize,
-    start: u32,
-    len: u32,
-    sigil: u32,
-) -> bool
-    ensures { λ r. ⌜ r ≡ both (ltb 0 root) (both (ltb at known) (namedAt (now (text .entry)) (now (book .entry)) at start len sigil)) ⌝ }
+fn is_reached(root: usize, known: usize, at: usize, named: bool) -> bool
+    ensures { λ r. ⌜ r ≡ both (ltb 0 root) (both (ltb at known) named) ⌝ }
 {
     if root == 0 {
         return false;
@@ -602,7 +614,7 @@ fn is_reached(
     if known <= at {
         return false;
     }
-    named_at(&*text, &*book, at, start, len, sigil)
+    named
 }
 
 // The entry of a name whose descent ends at `at`, or how many are known.
@@ -611,14 +623,15 @@ fn entry_of(
     book: &[u32],
     st: St,
     at: usize,
+    named: bool,
     start: u32,
     len: u32,
     sigil: u32,
 ) -> usize
-    ensures { λ r. ⌜ r ≡ pick (both (ltb 0 (st .root)) (both (ltb at (known (now (book .entry)) st)) (namedAt (now (text .entry)) (now (book .entry)) at start len sigil))) at (lookup (now (text .entry)) (now (book .entry)) start len sigil (min (known (now (book .entry)) st) 32768) (known (now (book .entry)) st - 32768)) ⌝ }
+    ensures { λ r. ⌜ r ≡ pick (both (ltb 0 (st .root)) (both (ltb at (known (now (book .entry)) st)) named)) at (lookup (now (text .entry)) (now (book .entry)) start len sigil (min (known (now (book .entry)) st) 32768) (known (now (book .entry)) st - 32768)) ⌝ }
 {
     let end = least(st.entries, book.len() / ENTRY);
-    if is_reached(&*text, &*book, st.root, end, at, start, len, sigil) {
+    if is_reached(st.root, end, at, named) {
         return at;
     }
     find(
@@ -637,9 +650,10 @@ fn entry_of(
 fn find_symbol(text: &[u16], book: &[u32], st: St, start: u32, len: u32, sigil: u32) -> Found
     ensures { λ r. ⌜ (r .descent ≡ descentTo (now (text .entry)) (now (book .entry)) st start len sigil) × (r .entry ≡ entryOf (now (text .entry)) (now (book .entry)) st start len sigil) ⌝ }
 {
-    let descent = descent_to(&*text, &*book, st, start, len, sigil);
+    let stop = descent_to(&*text, &*book, st, start, len, sigil);
+    let descent = stop.descent;
     let at = descent.at;
-    let entry = entry_of(&*text, &*book, st, at, start, len, sigil);
+    let entry = entry_of(&*text, &*book, st, at, stop.named, start, len, sigil);
     Found { descent, entry }
 }
 

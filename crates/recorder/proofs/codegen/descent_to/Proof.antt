@@ -1,6 +1,6 @@
 use borrow.Author.Needs.{needs}
 use native.Mathlib.Omega.{arith}
-use mathlib.Core.Path.{_≡_, refl}
+use mathlib.Core.Path.{_≡_, refl, sym, _∙_}
 use Rattle.recorder.specs.Mem.{descentFrom}
 use Rattle.recorder.proofs.Laws.{descent, descent-step, descent-here, descent-none, descent-past, descent-end, descent-all}
 use Rattle.recorder.proofs.codegen.descent_to.Statement.{statement}
@@ -21,65 +21,69 @@ Inv-loop text book start len sigil end at₀ bits₀ left₀ at bits left = desc
 abbrev μ-loop : tie.MeasureT-loop
 μ-loop text book start len sigil end at₀ bits₀ left₀ at bits left = left
 
--- src/codegen.rt:516:9
+-- src/codegen.rt:528:9
 least-requires : tie.Need-least-requires Inv-loop μ-loop
 least-requires c κs = search needs
 
--- src/codegen.rt:517:9
+-- src/codegen.rt:529:9
 less-requires : tie.Need-less-requires Inv-loop μ-loop
 less-requires c κs = search needs
 
--- src/codegen.rt:518:43
+-- src/codegen.rt:530:43
 sigil-code-requires : tie.Need-sigil-code-requires Inv-loop μ-loop
 sigil-code-requires c κs = search needs
 
--- src/codegen.rt:518:9
+-- src/codegen.rt:530:9
 hash-of-requires : tie.Need-hash-of-requires Inv-loop μ-loop
 hash-of-requires c κs = search needs
 
--- src/codegen.rt:520:5
+-- src/codegen.rt:532:5
 loop-holds : tie.Need-loop-holds Inv-loop μ-loop
 loop-holds c = refl
 
--- src/codegen.rt:521:9
+-- src/codegen.rt:533:9
 sub-left : tie.Need-sub-left Inv-loop μ-loop
 sub-left c = search needs
 
--- src/codegen.rt:522:12
+-- src/codegen.rt:534:12
 named-at-requires : tie.Need-named-at-requires Inv-loop μ-loop
 named-at-requires c κs = search needs
 
--- src/codegen.rt:523:13
+-- src/codegen.rt:536:13
 returns : tie.Need-returns Inv-loop μ-loop
-returns c = descent-all _ _ _ _ _ _ _ _ _ _ _ (c .before .before .before .before .before .before .before .least .ensures) (c .before .before .before .before .before .before .less .ensures) (c .before .before .before .before .before .sigil-code .ensures) (c .before .before .before .before .hash-of .ensures) (descent-here _ _ _ _ _ _ _ _ _ _ _ (c .before .before .loop-test .taken) (c .before .before .before .loop .inv) (c .before .named-at .ensures) (c .if1 .taken))
+returns c = (descent-all _ _ _ _ _ _ _ _ _ _ _ (c .before .before .before .before .before .before .before .least .ensures) (c .before .before .before .before .before .before .less .ensures) (c .before .before .before .before .before .sigil-code .ensures) (c .before .before .before .before .hash-of .ensures) (descent-here _ _ _ _ _ _ _ _ _ _ _ (c .before .before .loop-test .taken) (c .before .before .before .loop .inv) (c .before .named-at .ensures) (c .if1 .taken)), sym (c .if1 .taken) ∙ (c .before .named-at .ensures))
 
--- src/codegen.rt:525:13
+-- src/codegen.rt:541:13
 child-of-requires : tie.Need-child-of-requires Inv-loop μ-loop
 child-of-requires c κs = search needs
 
--- src/codegen.rt:527:13
+-- src/codegen.rt:544:13
 returns-2 : tie.Need-returns-2 Inv-loop μ-loop
-returns-2 c = descent-all _ _ _ _ _ _ _ _ _ _ _ (c .before .before .before .before .before .before .before .before .before .least .ensures) (c .before .before .before .before .before .before .before .before .less .ensures) (c .before .before .before .before .before .before .before .sigil-code .ensures) (c .before .before .before .before .before .before .hash-of .ensures) (descent-none _ _ _ _ _ _ _ _ _ _ _ _ (c .before .before .before .before .loop-test .taken) (c .before .before .before .before .before .loop .inv) (c .before .before .before .named-at .ensures) (c .before .before .if1 .left) (c .before .child-of .ensures) (c .if2 .taken))
+returns-2 c = (descent-all _ _ _ _ _ _ _ _ _ _ _ (c .before .before .before .before .before .before .before .before .before .least .ensures) (c .before .before .before .before .before .before .before .before .less .ensures) (c .before .before .before .before .before .before .before .sigil-code .ensures) (c .before .before .before .before .before .before .hash-of .ensures) (descent-none _ _ _ _ _ _ _ _ _ _ _ _ (c .before .before .before .before .loop-test .taken) (c .before .before .before .before .before .loop .inv) (c .before .before .before .named-at .ensures) (c .before .before .if1 .left) (c .before .child-of .ensures) (c .if2 .taken)), sym (c .before .before .if1 .left) ∙ (c .before .before .before .named-at .ensures))
 
--- src/codegen.rt:530:13
+-- src/codegen.rt:551:13
 returns-3 : tie.Need-returns-3 Inv-loop μ-loop
-returns-3 c = descent-all _ _ _ _ _ _ _ _ _ _ _ (c .before .before .before .before .before .before .before .before .before .before .least .ensures) (c .before .before .before .before .before .before .before .before .before .less .ensures) (c .before .before .before .before .before .before .before .before .sigil-code .ensures) (c .before .before .before .before .before .before .before .hash-of .ensures) (descent-past _ _ _ _ _ _ _ _ _ _ _ _ (c .before .before .before .before .before .loop-test .taken) (c .before .before .before .before .before .before .loop .inv) (c .before .before .before .before .named-at .ensures) (c .before .before .before .if1 .left) (c .before .before .child-of .ensures) (c .before .if2 .left) (c .if3 .taken))
+returns-3 c = (descent-all _ _ _ _ _ _ _ _ _ _ _ (c .before .before .before .before .before .before .before .before .before .before .least .ensures) (c .before .before .before .before .before .before .before .before .before .less .ensures) (c .before .before .before .before .before .before .before .before .sigil-code .ensures) (c .before .before .before .before .before .before .before .hash-of .ensures) (descent-past _ _ _ _ _ _ _ _ _ _ _ _ (c .before .before .before .before .before .loop-test .taken) (c .before .before .before .before .before .before .loop .inv) (c .before .before .before .before .named-at .ensures) (c .before .before .before .if1 .left) (c .before .before .child-of .ensures) (c .before .if2 .left) (c .if3 .taken)), sym (c .before .before .before .if1 .left) ∙ (c .before .before .before .before .named-at .ensures))
 
--- src/codegen.rt:533:9
+-- src/codegen.rt:557:9
 next-bits-requires : tie.Need-next-bits-requires Inv-loop μ-loop
 next-bits-requires c κs = search needs
 
--- src/codegen.rt:520:5
+-- src/codegen.rt:532:5
 loop-less : tie.Need-loop-less Inv-loop μ-loop
 loop-less c = search needs
 
--- src/codegen.rt:520:5
+-- src/codegen.rt:532:5
 loop-again : tie.Need-loop-again Inv-loop μ-loop
 loop-again c = descent-step _ _ _ _ _ _ _ _ _ _ _ _ _ (c .before .before .before .before .before .before .loop-test .taken) (c .before .before .before .before .before .before .before .loop .inv) (c .before .before .before .before .before .named-at .ensures) (c .before .before .before .before .if1 .left) (c .before .before .before .child-of .ensures) (c .before .before .if2 .left) (c .before .if3 .left) (c .next-bits .ensures)
 
--- src/codegen.rt:513:1
+-- src/codegen.rt:560:9
+named-at-requires-2 : tie.Need-named-at-requires-2 Inv-loop μ-loop
+named-at-requires-2 c κs = search needs
+
+-- src/codegen.rt:525:1
 returns-4 : tie.Need-returns-4 Inv-loop μ-loop
-returns-4 c = descent-all _ _ _ _ _ _ _ _ _ _ _ (c .before .before .before .before .before .least .ensures) (c .before .before .before .before .less .ensures) (c .before .before .before .sigil-code .ensures) (c .before .before .hash-of .ensures) (descent-end _ _ _ _ _ _ _ _ _ _ (c .loop-test .left) (c .before .loop .inv))
+returns-4 c = (descent-all _ _ _ _ _ _ _ _ _ _ _ (c .before .before .before .before .before .before .least .ensures) (c .before .before .before .before .before .less .ensures) (c .before .before .before .before .sigil-code .ensures) (c .before .before .before .hash-of .ensures) (descent-end _ _ _ _ _ _ _ _ _ _ (c .before .loop-test .left) (c .before .before .loop .inv)), (c .named-at2 .ensures))
 
 pub descent-to-spec : {M : Type 1} → statement M
 descent-to-spec =
@@ -101,4 +105,5 @@ descent-to-spec =
     next-bits-requires
     loop-less
     loop-again
+    named-at-requires-2
     returns-4)
