@@ -5,7 +5,6 @@ use mathlib.Core.Bool.{Bool, true, false}
 use Prim.Native.Nat.{ℕ, zero, suc, _+_, _*_, _-_, _≤_, _<_, _/_, _%_, _^_}
 use lib.Dec.{ltb, eqb}
 use lib.ListN.{length, getD, set}
-use lib.Seq.{set-out}
 use borrow.Author.Tests.{lt-ltb, le-ltb, eq-eqb, ne-eqb, eqb-true, eqb-false}
 use borrow.Rule.Slice.PartMut.{midOf, putMid}
 use native.Mathlib.Numerals.{sub-one}
@@ -17,7 +16,7 @@ use Rattle.recorder.specs.Ideal.{Rec}
 use Rattle.recorder.specs.Closing.{isWhile, isWend, isOne, isEnd, isNextOf, upTo, roundUp}
 use Rattle.recorder.specs.Mem.{noteList, noteSt, recOf, setB, atRec, whileList, whileTop, Passed, passed, openFrom, unitOf, rewrite, wholeAt, known, sigilOf, unlinkAt, unlinkFrom, unlinked}
 use Rattle.recorder.proofs.Laws.{part-back}
-use Rattle.recorder.proofs.Bools.{never}
+use Rattle.recorder.proofs.Bools.{never, both-false}
 
 -- tests in a row
 pub both-no : (a b f : Bool) → f ≡ a → f ≡ false → false ≡ both a b
@@ -200,19 +199,16 @@ one-yes r c a b e f g h i = rw (eq-eqb (r .call) 3 (sym e ∙ f), eq-eqb (r .a) 
 pub unit-start : (e : ℕ) → e < 160 → (1 ≡ 2 ^ (e - e)) × (e ≤ e) × (e ≤ 160)
 unit-start e h = let z : e - e ≡ 0 = omega arith in (rw z, omega arith, omega arith)
 
--- the names' links go: a name, another entry, none; and all of them
-pub unlink-name : (b : List ℕ) (k c w v : ℕ) → c ≡ kindAt b (4 * k) → c ≡ 50 → w ≡ getD b (4 * k + 3) 0 → v ≡ sigilOf (w % 4) → set b (4 * k + 3) v ≡ unlinkAt b k
-unlink-name b k c w v e f g h = rw (eq-eqb (kindAt b (4 * k)) 50 (sym e ∙ f), h, g)
+-- the names' tags and links go: a name, another entry, none; and all of them
+pub unlink-name : (b : List ℕ) (k c u h w v : ℕ) → k < length b / 4 → c ≡ kindAt b (4 * k) → 127 < c → u ≡ getD b (4 * k) 0 → h ≡ wordOf 50 u → w ≡ getD b (4 * k + 3) 0 → v ≡ sigilOf (w % 4)
+    → set (set b (4 * k) h) (4 * k + 3) v ≡ unlinkAt b k
+unlink-name b k c u h w v r e f i j g l = rw (lt-ltb k (length b / 4) r, lt-ltb 127 (kindAt b (4 * k)) (rw e at f), l, g, j, i)
 
-pub unlink-other : (b : List ℕ) (k c : ℕ) → c ≡ kindAt b (4 * k) → (c ≡ 50 → ⊥) → b ≡ unlinkAt b k
-unlink-other b k c e f = rw (ne-eqb (kindAt b (4 * k)) 50 (λ z. f (e ∙ z)))
+pub unlink-other : (b : List ℕ) (k c : ℕ) → c ≡ kindAt b (4 * k) → c ≤ 127 → b ≡ unlinkAt b k
+unlink-other b k c e f = rw (le-ltb 127 (kindAt b (4 * k)) (rw e at f), both-false (ltb k (length b / 4)))
 
 pub unlink-none : (b : List ℕ) (k : ℕ) → length b / 4 ≤ k → b ≡ unlinkAt b k
-unlink-none b k h = either-way (eqb (kindAt b (4 * k)) 50) _ b (set-out b (4 * k + 3) _ (omega arith))
-  where
-    either-way : (f : Bool) (x y : List ℕ) → x ≡ y → y ≡ pick f x y
-    either-way true x y e = sym e
-    either-way false x y e = refl
+unlink-none b k h = rw (le-ltb k (length b / 4) h)
 
 pub unlink-step : (b b′ L : List ℕ) (k end : ℕ) → k < end → unlinkFrom b k (end - k) ≡ L → b′ ≡ unlinkAt b k → unlinkFrom b′ (k + 1) (end - (k + 1)) ≡ L
 unfolding unlinkFrom

@@ -394,19 +394,22 @@ fn sigil_of(c: u32) -> u32
     0
 }
 
-// An entry's last word: where it is a name's, its sigil alone.
+// An entry as document 01 has it: a name's head has its kind in place of the tag, its last word its sigil alone.
 fn unlink_at(book: &mut [u32], k: usize)
     ensures { λ r. ⌜ now (book .exit) ≡ unlinkAt (now (book .entry)) k ⌝ }
 {
     if k < book.len() / ENTRY {
         let i = ENTRY * k;
-        if kind_at(book, i) == 50 {
-            book[i + EXTRA] = sigil_of(word_at(book, i + EXTRA) % 4);
+        if 127 < kind_at(book, i) {
+            let head = word_of(50, word_at(book, i));
+            let last = sigil_of(word_at(book, i + EXTRA) % 4);
+            book[i] = head;
+            book[i + EXTRA] = last;
         }
     }
 }
 
-// The book as document 01 has it: the names are in no tree any more.
+// The book as document 01 has it: the names have no tags and are in no tree any more.
 pub fn unlink_names(book: &mut [u32], st: St)
     ensures { λ r. ⌜ now (book .exit) ≡ unlinked (now (book .entry)) st ⌝ }
 {

@@ -18,7 +18,7 @@ use Rattle.recorder.specs.Word.{pick, both, kind, payloadAt, wordOf, ran
 use Rattle.recorder.specs.Name.{upper, sameUnits, sameName}
 use Rattle.recorder.specs.Ideal.{firstOf}
 use Rattle.recorder.specs.Layout.{mostRecords}
-use Rattle.recorder.specs.Mem.{putList, putRec, putSt, withRecords, four, more, low, known, sigilCode, withLink, isNameEntry, namedAt, lookup, hashStep, hashOf, childOf, descentFrom, descentTo, entryOf, mayLink, linkedAt, linked, rootOf, newList, newSt, symbolNumber, symbolList, symbolSt, entryList, entrySt, noteList, noteSt, withNames, withNotes, withEntries, part, atRec, onRec}
+use Rattle.recorder.specs.Mem.{putList, putRec, putSt, withRecords, four, more, low, known, sigilCode, withLink, tagOf, nameTag, isNameEntry, taggedAt, namedAt, lookup, hashStep, hashOf, childOf, descentFrom, descentTo, entryOf, mayLink, linkedAt, linked, rootOf, newList, newSt, symbolNumber, symbolList, symbolSt, entryList, entrySt, noteList, noteSt, withNames, withNotes, withEntries, part, atRec, onRec}
 use Rattle.recorder.proofs.Bools.{both-false}
 
 -- the units' loop: one turn, a difference, the end
@@ -40,6 +40,13 @@ pub units-end : (t : List ℕ) (p q n : ℕ) (z : Bool) → n ≤ 0 → sameUnit
 unfolding sameUnits
 units-end t p q zero z h e = e
 units-end t p q (suc n) z h e = absurd (omega arith)
+
+-- an entry compared with a name's tag is compared with the name
+pub by-tag : (t b : List ℕ) (k v x n g : ℕ) (f : Bool) → v ≡ nameTag t x n g → f ≡ taggedAt t b k v x n g → f ≡ namedAt t b k x n g
+by-tag t b k v x n g f e i = i ∙ rw e
+
+pub tag-of-name : (t : List ℕ) (v x n g c h : ℕ) → c ≡ sigilCode g → h ≡ hashOf t x c n → v ≡ tagOf h → v ≡ nameTag t x n g
+tag-of-name t v x n g c h i j e = e ∙ rw (j, i)
 
 -- the search past the tree: one turn, the name, the end
 pub find-step : (t b : List ℕ) (x n g k left z : ℕ) (f : Bool) → 0 < left → lookup t b x n g k left ≡ z → f ≡ namedAt t b k x n g → f ≡ false
@@ -195,17 +202,17 @@ entry-same : (b b₁ : List ℕ) (st : St) → length b₁ ≡ length b → entr
 unfolding entrySt
 entry-same b b₁ st e = rw e
 
-pub sought : (t b : List ℕ) (st : St) (x n g k : ℕ) (w : Descent) (f : Bool) → (w ≡ descentTo t b st x n g) × (f ≡ namedAt t b (w .at) x n g)
+pub sought : (t b : List ℕ) (st : St) (x n g k v : ℕ) (w : Descent) (f : Bool) → (w ≡ descentTo t b st x n g) × (f ≡ namedAt t b (w .at) x n g) × (v ≡ nameTag t x n g)
     → k ≡ pick (both (ltb 0 (st .root)) (both (ltb (w .at) (known b st)) f)) (w .at) (lookup t b x n g (min (known b st) 32768) (known b st - 32768))
-    → (w ≡ descentTo t b st x n g) × (k ≡ entryOf t b st x n g)
+    → (w ≡ descentTo t b st x n g) × (k ≡ entryOf t b st x n g) × (v ≡ nameTag t x n g)
 unfolding entryOf
-sought t b st x n g k w f a e = (a .0, e ∙ rw (a .1, a .0))
+sought t b st x n g k v w f a e = (a .0, e ∙ rw (a .1, a .0), a .2)
 
-pub new-name : (b b₁ b₂ : List ℕ) (st s s′ : St) (x n g c v u h o : ℕ) (w : Descent) → b₁ ≡ linked b st w
-    → v ≡ low (st .names) → u ≡ more (st .names) (length b / 4) → o ≡ rootOf b st → h ≡ wordOf 50 v → c ≡ sigilCode g
+pub new-name : (b b₁ b₂ : List ℕ) (st s s′ : St) (k x n g c v u h o : ℕ) (w : Descent) → b₁ ≡ linked b st w
+    → v ≡ low (st .names) → u ≡ more (st .names) (length b / 4) → o ≡ rootOf b st → h ≡ wordOf k v → c ≡ sigilCode g
     → (b₂ ≡ entryList b₁ st h x n c) × (s ≡ entrySt b₁ st) → s′ ≡ withNames s u o
-    → (b₂ ≡ newList b st w x n g) × (s′ ≡ newSt b st) × (v ≡ low (st .names))
-new-name b b₁ b₂ st s s′ x n g c v u h o w f p q r y z d β =
+    → (b₂ ≡ newList b st w k x n g) × (s′ ≡ newSt b st) × (v ≡ low (st .names))
+new-name b b₁ b₂ st s s′ k x n g c v u h o w f p q r y z d β =
     (d .0 ∙ rw (f, y, p, z), β ∙ rw (d .1, q, r, entry-same b b₁ st (linked-same b b₁ st w f)), p)
 
 -- a name that is in the book, and one that is not
@@ -214,11 +221,11 @@ pub symbol-found : (t b : List ℕ) (st : St) (x n g k m v : ℕ) → k ≡ entr
 unfolding symbolList symbolSt symbolNumber
 symbol-found t b st x n g k m v q i h j = let l = lt-ltb _ _ (rw (q, i) at h) in (rw l, rw l, rw l (rw q at j))
 
-pub symbol-new : (t b b′ : List ℕ) (st s : St) (x n g k m v : ℕ) (w : Descent) → w ≡ descentTo t b st x n g → k ≡ entryOf t b st x n g → m ≡ known b st → m ≤ k
-    → (b′ ≡ newList b st w x n g) × (s ≡ newSt b st) × (v ≡ low (st .names))
+pub symbol-new : (t b b′ : List ℕ) (st s : St) (x n g k m v u : ℕ) (w : Descent) → w ≡ descentTo t b st x n g → k ≡ entryOf t b st x n g → u ≡ nameTag t x n g → m ≡ known b st → m ≤ k
+    → (b′ ≡ newList b st w u x n g) × (s ≡ newSt b st) × (v ≡ low (st .names))
     → (b′ ≡ symbolList t b st x n g) × (s ≡ symbolSt t b st x n g) × (v ≡ symbolNumber t b st x n g)
 unfolding symbolList symbolSt symbolNumber
-symbol-new t b b′ st s x n g k m v w a q i j d = let l = le-ltb _ _ (rw (q, i) at j) in (rw l (d .0 ∙ rw a), rw l (d .1), rw l (d .2))
+symbol-new t b b′ st s x n g k m v u w a q o i j d = let l = le-ltb _ _ (rw (q, i) at j) in (rw l (d .0 ∙ rw (a, o)), rw l (d .1), rw l (d .2))
 
 -- a note, an entry: it fits, it does not
 pub note-in : (l l′ : List ℕ) (st s : St) (h w v : ℕ) (f : Bool) → (l′ ≡ pick (ltb (st .notes) (length l / 4)) (four l (st .notes) h w v 0) l) × (f ≡ ltb (st .notes) (length l / 4)) → f ≡ true
@@ -301,9 +308,9 @@ pub put-out : (l : List ℕ) (st s : St) (k m a b c : ℕ) (r : Range) → m ≡
 unfolding putList putSt
 put-out l st s k m a b c r e f g = let t = le-ltb _ _ (rw e at f) in (rw t, g ∙ rw t)
 
--- an entry of another kind, and a name
-pub name-other : (t : List ℕ) (h a n x b m y k : ℕ) → k ≡ kind h → (k ≡ 50 → ⊥) → false ≡ isNameEntry t h a n x b m y
-name-other t h a n x b m y k e f = rw (ne-eqb (kind h) 50 (rw e at f))
+-- an entry with another tag or none, and a name
+pub name-other : (t : List ℕ) (h a n x v b m y k : ℕ) → k ≡ kind h → (k ≡ v → ⊥) → false ≡ isNameEntry t h a n x v b m y
+name-other t h a n x v b m y k e f = rw (ne-eqb (kind h) v (rw e at f))
 
-pub name-same : (t : List ℕ) (h a n x b m y c k : ℕ) (f : Bool) → k ≡ kind h → k ≡ 50 → c ≡ sigilCode y → f ≡ sameName t a n (x % 4) b m c → f ≡ isNameEntry t h a n x b m y
-name-same t h a n x b m y c k f e g j i = rw (eq-eqb (kind h) 50 (rw e at g), ← j) i
+pub name-same : (t : List ℕ) (h a n x v b m y c k : ℕ) (f : Bool) → k ≡ kind h → k ≡ v → c ≡ sigilCode y → f ≡ sameName t a n (x % 4) b m c → f ≡ isNameEntry t h a n x v b m y
+name-same t h a n x v b m y c k f e g j i = rw (eq-eqb (kind h) v (rw e at g), ← j) i

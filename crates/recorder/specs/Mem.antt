@@ -11,7 +11,7 @@ use Rattle.recorder.specs.declared.codegen.Descent.{Descent}
 use Rattle.recorder.specs.Word.{pick, both, kind, kindAt, payloadAt, rangeAt, wordOf, rangeWord, next}
 use Rattle.recorder.specs.Name.{upper, sameName}
 use Rattle.recorder.specs.Layout.{recSize, noteSize, entrySize, rangeWordAt, argA, argB, argC, extraAt, mostRecords}
-use Rattle.recorder.specs.Ideal.{Rec, rec, noRange, lookOf, firstOf}
+use Rattle.recorder.specs.Ideal.{Rec, rec, nameKind, noRange, lookOf, firstOf}
 use Rattle.recorder.specs.Recorder.{Recorder, Look, unknown}
 use Rattle.recorder.specs.Closing.{isWhile, isWend, isStart, isEnd, isOne, isFor, isNextOf, roundUp}
 
@@ -106,18 +106,6 @@ withLink high w k = pick high (w % 131072 + 131072 * (k % 32768)) (w / 131072 * 
 abbrev pub known : List ℕ → St → ℕ
 known b s = min (s .entries) (length b / entrySize)
 
--- whether an entry is this name
-abbrev pub isNameEntry : List ℕ → ℕ → ℕ → ℕ → ℕ → ℕ → ℕ → ℕ → Bool
-isNameEntry t h a m y x n g = pick (eqb (kind h) 50) (sameName t a m (y % 4) x n (sigilCode g)) false
-
-abbrev pub namedAt : List ℕ → List ℕ → ℕ → ℕ → ℕ → ℕ → Bool
-namedAt t b k x n g = pick (ltb k (length b / entrySize)) (isNameEntry t (getD b (entrySize * k) 0) (getD b (entrySize * k + 1) 0) (getD b (entrySize * k + 2) 0) (getD b (entrySize * k + extraAt) 0) x n g) false
-
--- the first of `left` entries, from the k-th on, that is this name; k + left if none is
-unfoldable pub lookup : List ℕ → List ℕ → ℕ → ℕ → ℕ → ℕ → ℕ → ℕ
-lookup t b x n g k zero = k
-lookup t b x n g k (suc left) = pick (namedAt t b k x n g) k (lookup t b x n g (k + 1) left)
-
 -- the hash: a number of 32 bits from a name's units in upper case, its highest bit chooses the first child
 abbrev pub hashStep : ℕ → ℕ → ℕ
 hashStep h u = (h + u) * 2654435769 % 4294967296
@@ -125,6 +113,29 @@ hashStep h u = (h + u) * 2654435769 % 4294967296
 unfoldable pub hashOf : List ℕ → ℕ → ℕ → ℕ → ℕ
 hashOf t at h zero = h
 hashOf t at h (suc n) = hashOf t (next t at) (hashStep h (upper (getD t at 0))) n
+
+-- While compiling, a name's head has a tag in place of its kind: 128 and seven bits of its hash. So most other names are told from it
+-- without the text, and a kind above 127 is a name's.
+abbrev pub tagOf : ℕ → ℕ
+tagOf h = 128 + h / 4096 % 128
+
+abbrev pub nameTag : List ℕ → ℕ → ℕ → ℕ → ℕ
+nameTag t x n g = tagOf (hashOf t x (sigilCode g) n)
+
+-- whether an entry is this name, whose tag is v
+abbrev pub isNameEntry : List ℕ → ℕ → ℕ → ℕ → ℕ → ℕ → ℕ → ℕ → ℕ → Bool
+isNameEntry t h a m y v x n g = pick (eqb (kind h) v) (sameName t a m (y % 4) x n (sigilCode g)) false
+
+abbrev pub taggedAt : List ℕ → List ℕ → ℕ → ℕ → ℕ → ℕ → ℕ → Bool
+taggedAt t b k v x n g = pick (ltb k (length b / entrySize)) (isNameEntry t (getD b (entrySize * k) 0) (getD b (entrySize * k + 1) 0) (getD b (entrySize * k + 2) 0) (getD b (entrySize * k + extraAt) 0) v x n g) false
+
+abbrev pub namedAt : List ℕ → List ℕ → ℕ → ℕ → ℕ → ℕ → Bool
+namedAt t b k x n g = taggedAt t b k (nameTag t x n g) x n g
+
+-- the first of `left` entries, from the k-th on, that is this name; k + left if none is
+unfoldable pub lookup : List ℕ → List ℕ → ℕ → ℕ → ℕ → ℕ → ℕ → ℕ
+lookup t b x n g k zero = k
+lookup t b x n g k (suc left) = pick (namedAt t b k x n g) k (lookup t b x n g (k + 1) left)
 
 -- the child that the descent goes on to, and whether there is one: a later entry that the book has
 abbrev pub childOf : List ℕ → Descent → ℕ
@@ -166,9 +177,9 @@ linked b s w = pick (both (ltb 0 (s .root)) (mayLink b s)) (linkedAt b (s .entri
 unfoldable pub rootOf : List ℕ → St → ℕ
 rootOf b s = pick (both (eqb (s .root) 0) (mayLink b s)) (s .entries + 1) (s .root)
 
--- a new name, whose descent ends at w: linked, and put as the next entry
-abbrev pub newList : List ℕ → St → Descent → ℕ → ℕ → ℕ → List ℕ
-newList b s w x n g = entryList (linked b s w) s (wordOf 50 (low (s .names))) x n (sigilCode g)
+-- a new name with the tag v, whose descent ends at w: linked, and put as the next entry
+abbrev pub newList : List ℕ → St → Descent → ℕ → ℕ → ℕ → ℕ → List ℕ
+newList b s w v x n g = entryList (linked b s w) s (wordOf v (low (s .names))) x n (sigilCode g)
 
 abbrev pub newSt : List ℕ → St → St
 newSt b s = withNames (entrySt b s) (more (s .names) (length b / entrySize)) (rootOf b s)
@@ -177,14 +188,17 @@ unfoldable pub symbolNumber : List ℕ → List ℕ → St → ℕ → ℕ → �
 symbolNumber t b s x n g = pick (ltb (entryOf t b s x n g) (known b s)) (payloadAt b (entrySize * entryOf t b s x n g)) (low (s .names))
 
 unfoldable pub symbolList : List ℕ → List ℕ → St → ℕ → ℕ → ℕ → List ℕ
-symbolList t b s x n g = pick (ltb (entryOf t b s x n g) (known b s)) b (newList b s (descentTo t b s x n g) x n g)
+symbolList t b s x n g = pick (ltb (entryOf t b s x n g) (known b s)) b (newList b s (descentTo t b s x n g) (nameTag t x n g) x n g)
 
 unfoldable pub symbolSt : List ℕ → List ℕ → St → ℕ → ℕ → ℕ → St
 symbolSt t b s x n g = pick (ltb (entryOf t b s x n g) (known b s)) s (newSt b s)
 
--- closing up: a name's last word is its sigil again
+-- closing up: a name's head has its kind again, its last word is its sigil
 abbrev pub unlinkAt : List ℕ → ℕ → List ℕ
-unlinkAt b k = pick (eqb (kindAt b (entrySize * k)) 50) (set b (entrySize * k + extraAt) (sigilOf (getD b (entrySize * k + extraAt) 0 % 4))) b
+unlinkAt b k =
+    pick (both (ltb k (length b / entrySize)) (ltb 127 (kindAt b (entrySize * k))))
+    (set (set b (entrySize * k) (wordOf nameKind (getD b (entrySize * k) 0))) (entrySize * k + extraAt) (sigilOf (getD b (entrySize * k + extraAt) 0 % 4)))
+    b
 
 unfoldable pub unlinkFrom : List ℕ → ℕ → ℕ → List ℕ
 unlinkFrom b k zero = b

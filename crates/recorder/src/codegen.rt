@@ -19,7 +19,7 @@ ghost use Rattle.recorder.specs.Word.{pick, both, wordOf, rangeWord};
 ghost use Rattle.recorder.specs.Name.{upper, sameUnits, sameName};
 ghost use Rattle.recorder.specs.Ideal.{firstOf};
 ghost use Rattle.recorder.specs.Layout.{entrySize, extraAt, mostRecords};
-ghost use Rattle.recorder.specs.Mem.{sigilCode, linkOf, withLink, known, namedAt, hashStep, hashOf, descentTo, linkedAt, linked, nothing, onLine, withRecords, withNotes, withEntries, withNames, withData, withBytes, four, low, more, putSt, putRec, noteList, noteSt, entryList, entrySt, isNameEntry, lookup, entryOf, newList, newSt, symbolNumber, symbolList, symbolSt, datumList, datumSt, byteList, byteSt, onRec, setA, setB, setC, settleArgs, clearArgs, lookAt};
+ghost use Rattle.recorder.specs.Mem.{sigilCode, linkOf, withLink, known, namedAt, hashStep, hashOf, descentTo, linkedAt, linked, nothing, onLine, withRecords, withNotes, withEntries, withNames, withData, withBytes, four, low, more, putSt, putRec, noteList, noteSt, entryList, entrySt, isNameEntry, tagOf, nameTag, taggedAt, lookup, entryOf, newList, newSt, symbolNumber, symbolList, symbolSt, datumList, datumSt, byteList, byteSt, onRec, setA, setB, setC, settleArgs, clearArgs, lookAt};
 
 // How many words a record and an entry have; behind the head of a record stand its range and its three arguments, in an entry last
 // its extra.
@@ -67,16 +67,18 @@ pub struct Descent {
     pub bits: u32,
 }
 
-// Where the descent to a name stops, and whether that entry is the name.
+// Where the descent to a name stops, whether that entry is the name, and the name's tag.
 pub struct Stop {
     pub descent: Descent,
     pub named: bool,
+    pub tag: u8,
 }
 
-// What the search for a name finds: where its descent ends, and its entry, or how many are known.
+// What the search for a name finds: where its descent ends, its entry, or how many are known, and its tag.
 pub struct Found {
     pub descent: Descent,
     pub entry: usize,
+    pub tag: u8,
 }
 
 // What resolution reads of a record.
@@ -424,18 +426,62 @@ fn with_link(high: bool, w: u32, k: usize) -> u32
     }
 }
 
-// Whether the four words of an entry are a name's, and that name is this one.
-fn is_named(text: &[u16], h: u32, a: u32, n: u32, y: u32, start: u32, len: u32, sigil: u32) -> bool
-    ensures { λ r. ⌜ r ≡ isNameEntry (now (text .entry)) h a n y start len sigil ⌝ }
+fn hash_step(h: u32, u: u16) -> u32
+    ensures { λ r. ⌜ r ≡ hashStep h u ⌝ }
 {
-    if kind_of(h) != 50 {
+    ((h as u64 + u as u64) * 2654435769 % 4294967296) as u32
+}
+
+// The hash of a name: its bits choose the children on the descent to it.
+fn hash_of(text: &[u16], at: u32, first: u32, n: u32) -> u32
+    ensures { λ r. ⌜ r ≡ hashOf (now (text .entry)) at first n ⌝ }
+{
+    let mut p = at as usize;
+    let mut h = first;
+    let mut left = n;
+    while 0 < left {
+        h = hash_step(h, to_ascii_uppercase(unit_at(text, p)));
+        p = behind_unit(text, p);
+        left -= 1;
+    }
+    h
+}
+
+// A name's tag, in its head in place of the kind 50 until closing up: 128 and seven bits of its hash.
+fn tag_of(hash: u32) -> u8
+    ensures { λ r. ⌜ r ≡ tagOf hash ⌝ }
+{
+    (128 + hash / 4096 % 128) as u8
+}
+
+fn name_tag(text: &[u16], start: u32, len: u32, sigil: u32) -> u8
+    ensures { λ r. ⌜ r ≡ nameTag (now (text .entry)) start len sigil ⌝ }
+{
+    tag_of(hash_of(text, start, sigil_code(sigil), len))
+}
+
+// Whether the four words of an entry are a name's, and that name is this one.
+fn is_named(
+    text: &[u16],
+    h: u32,
+    a: u32,
+    n: u32,
+    y: u32,
+    tag: u8,
+    start: u32,
+    len: u32,
+    sigil: u32,
+) -> bool
+    ensures { λ r. ⌜ r ≡ isNameEntry (now (text .entry)) h a n y tag start len sigil ⌝ }
+{
+    if kind_of(h) != tag as u32 {
         return false;
     }
     same_name(&*text, a, n, y % 4, start, len, sigil_code(sigil))
 }
 
-fn named_at(text: &[u16], book: &[u32], k: usize, start: u32, len: u32, sigil: u32) -> bool
-    ensures { λ r. ⌜ r ≡ namedAt (now (text .entry)) (now (book .entry)) k start len sigil ⌝ }
+fn named_at(text: &[u16], book: &[u32], k: usize, tag: u8, start: u32, len: u32, sigil: u32) -> bool
+    ensures { λ r. ⌜ r ≡ taggedAt (now (text .entry)) (now (book .entry)) k tag start len sigil ⌝ }
 {
     if k < book.len() / ENTRY {
         let i = ENTRY * k;
@@ -445,6 +491,7 @@ fn named_at(text: &[u16], book: &[u32], k: usize, start: u32, len: u32, sigil: u
             word_at(&*book, i + 1),
             word_at(&*book, i + 2),
             word_at(&*book, i + EXTRA),
+            tag,
             start,
             len,
             sigil,
@@ -468,35 +515,18 @@ fn find(
 {
     let mut k: usize = from;
     let mut left = less(least(entries, book.len() / ENTRY), from);
+    if left == 0 {
+        return k;
+    }
+    let tag = name_tag(&*text, start, len, sigil);
     while 0 < left {
         left -= 1;
-        if named_at(&*text, &*book, k, start, len, sigil) {
+        if named_at(&*text, &*book, k, tag, start, len, sigil) {
             return k;
         }
         k += 1;
     }
     k
-}
-
-fn hash_step(h: u32, u: u16) -> u32
-    ensures { λ r. ⌜ r ≡ hashStep h u ⌝ }
-{
-    ((h as u64 + u as u64) * 2654435769 % 4294967296) as u32
-}
-
-// The hash of a name: its bits choose the children on the descent to it.
-fn hash_of(text: &[u16], at: u32, first: u32, n: u32) -> u32
-    ensures { λ r. ⌜ r ≡ hashOf (now (text .entry)) at first n ⌝ }
-{
-    let mut p = at as usize;
-    let mut h = first;
-    let mut left = n;
-    while 0 < left {
-        h = hash_step(h, to_ascii_uppercase(unit_at(text, p)));
-        p = behind_unit(text, p);
-        left -= 1;
-    }
-    h
 }
 
 fn is_high(bits: u32) -> bool
@@ -524,19 +554,22 @@ fn child_of(book: &[u32], at: usize, bits: u32) -> usize
 
 // The descent to a name, up to the name or to where it would be linked.
 fn descent_to(text: &[u16], book: &[u32], st: St, start: u32, len: u32, sigil: u32) -> Stop
-    ensures { λ r. ⌜ (r .descent ≡ descentTo (now (text .entry)) (now (book .entry)) st start len sigil) × (r .named ≡ namedAt (now (text .entry)) (now (book .entry)) (r .descent .at) start len sigil) ⌝ }
+    ensures { λ r. ⌜ (r .descent ≡ descentTo (now (text .entry)) (now (book .entry)) st start len sigil) × (r .named ≡ namedAt (now (text .entry)) (now (book .entry)) (r .descent .at) start len sigil) × (r .tag ≡ nameTag (now (text .entry)) start len sigil) ⌝ }
 {
     let end = least(st.entries, book.len() / ENTRY);
     let mut at = less(st.root, 1);
-    let mut bits = hash_of(&*text, start, sigil_code(sigil), len);
+    let hash = hash_of(&*text, start, sigil_code(sigil), len);
+    let tag = tag_of(hash);
+    let mut bits = hash;
     let mut left = end;
     while 0 < left {
         left -= 1;
-        if named_at(&*text, &*book, at, start, len, sigil) {
+        if named_at(&*text, &*book, at, tag, start, len, sigil) {
             let descent = Descent { at, bits };
             return Stop {
                 descent,
                 named: true,
+                tag,
             };
         }
         let k = child_of(&*book, at, bits);
@@ -545,6 +578,7 @@ fn descent_to(text: &[u16], book: &[u32], st: St, start: u32, len: u32, sigil: u
             return Stop {
                 descent,
                 named: false,
+                tag,
             };
         }
         if end <= k {
@@ -552,14 +586,19 @@ fn descent_to(text: &[u16], book: &[u32], st: St, start: u32, len: u32, sigil: u
             return Stop {
                 descent,
                 named: false,
+                tag,
             };
         }
         at = k;
         bits = next_bits(bits);
     }
     let descent = Descent { at, bits };
-    let named = named_at(&*text, &*book, at, start, len, sigil);
-    Stop { descent, named }
+    let named = named_at(&*text, &*book, at, tag, start, len, sigil);
+    Stop {
+        descent,
+        named,
+        tag,
+    }
 }
 
 fn may_link(st: St, room: usize) -> bool
@@ -648,13 +687,17 @@ fn entry_of(
 // The search for a name. It is apart from what makes one, so that the state is not copied where the name is known. Slices go on
 // as `&*` here and in what it calls: a copied one is written in two parts and read as one, for which the processor waits.
 fn find_symbol(text: &[u16], book: &[u32], st: St, start: u32, len: u32, sigil: u32) -> Found
-    ensures { λ r. ⌜ (r .descent ≡ descentTo (now (text .entry)) (now (book .entry)) st start len sigil) × (r .entry ≡ entryOf (now (text .entry)) (now (book .entry)) st start len sigil) ⌝ }
+    ensures { λ r. ⌜ (r .descent ≡ descentTo (now (text .entry)) (now (book .entry)) st start len sigil) × (r .entry ≡ entryOf (now (text .entry)) (now (book .entry)) st start len sigil) × (r .tag ≡ nameTag (now (text .entry)) start len sigil) ⌝ }
 {
     let stop = descent_to(&*text, &*book, st, start, len, sigil);
     let descent = stop.descent;
     let at = descent.at;
     let entry = entry_of(&*text, &*book, st, at, stop.named, start, len, sigil);
-    Found { descent, entry }
+    Found {
+        descent,
+        entry,
+        tag: stop.tag,
+    }
 }
 
 // A new name: linked where its descent ends, and put into the book.
@@ -663,18 +706,26 @@ fn new_symbol(
     st: St,
     at: usize,
     bits: u32,
+    tag: u8,
     start: u32,
     len: u32,
     sigil: u32,
 ) -> Named
-    ensures { λ r. ⌜ (now (book .exit) ≡ newList (now (book .entry)) st (record { at = at; bits = bits }) start len sigil) × (r .st ≡ newSt (now (book .entry)) st) × (r .number ≡ low (st .names)) ⌝ }
+    ensures { λ r. ⌜ (now (book .exit) ≡ newList (now (book .entry)) st (record { at = at; bits = bits }) tag start len sigil) × (r .st ≡ newSt (now (book .entry)) st) × (r .number ≡ low (st .names)) ⌝ }
 {
     let room = book.len() / ENTRY;
     link_next(book, st, at, bits);
     let number = low_bits(st.names);
     let names = one_more(st.names, room);
     let root = root_of(st, room);
-    let s = put_entry(book, st, word_of(50, number), start, len, sigil_code(sigil));
+    let s = put_entry(
+        book,
+        st,
+        word_of(tag, number),
+        start,
+        len,
+        sigil_code(sigil),
+    );
     let t = with_names(s, names, root);
     Named { st: t, number }
 }
@@ -697,7 +748,7 @@ pub fn make_symbol(
         let found = payload_at(book, ENTRY * k);
         return Named { st, number: found };
     }
-    new_symbol(book, st, descent.at, descent.bits, start, len, sigil)
+    new_symbol(book, st, descent.at, descent.bits, f.tag, start, len, sigil)
 }
 
 fn first_of(first: u32, n: usize) -> u32

@@ -1,4 +1,5 @@
--- The entries of the book as they stand while compiling: a name's last word has links, and closing up takes them away.
+-- The entries of the book as they stand while compiling: a name's head has a tag, its last word has links, and closing up takes both
+-- away.
 use mathlib.Core.Path.{_≡_, refl, sym, ap, _∙_}
 use mathlib.Core.List.{List, [], _∷_, _++_, append-assoc}
 use mathlib.Core.Bool.{Bool, true, false}
@@ -6,23 +7,23 @@ use Prim.Native.Nat.{ℕ, zero, suc, _+_, _*_, _-_, _≤_, _<_, _/_, _%_}
 use lib.Dec.{ltb, eqb}
 use lib.ListN.{length, getD, set, replicate, length-append, length-set}
 use lib.Seq.{getD-at, set-at}
-use borrow.Author.Tests.{lt-ltb, ltb-true, eqb-true, eq-eqb, ne-eqb}
-use native.Mathlib.Decide.{ℕ-discrete}
+use borrow.Author.Tests.{lt-ltb, le-ltb, ltb-true, eq-eqb, ne-eqb}
+use native.Mathlib.Decide.{decLt, ℕ-discrete}
 use native.Mathlib.Numerals.{add-one}
 use native.Mathlib.Omega.{arith}
 use Rattle.recorder.specs.Word.{pick, both, kind, kindAt, payloadAt, wordOf}
 use Rattle.recorder.specs.Name.{sameName}
 use Rattle.recorder.specs.Ideal.{Entry, entry, Search, missing, found, isNamed, findName}
 use Rattle.recorder.specs.Layout.{entryWords, wordsOf, fill}
-use Rattle.recorder.specs.Mem.{sigilCode, sigilOf, lookup, four, unlinkAt, unlinkFrom}
+use Rattle.recorder.specs.Mem.{sigilCode, sigilOf, tagOf, nameTag, hashOf, lookup, four, unlinkAt, unlinkFrom}
 use Rattle.recorder.proofs.Words.{head-kind, length-snoc, put4, words-snoc, length-words4}
 use Rattle.recorder.proofs.Bools.{never}
 use Rattle.simulation.proofs.Simulation.{Sigil}
-use Rattle.simulation.proofs.Tree.{code-whole}
+use Rattle.simulation.proofs.Tree.{Tree, code-whole, tag-high, same-hash}
 
--- an entry without its links: a name's sigil alone
+-- an entry without tag and links: a name's kind, and its sigil alone
 unfoldable pub bare : Entry → Entry
-bare e = pick (eqb (e .kind) 50) (entry (e .kind) (e .number) (e .start) (e .length) (sigilOf (e .extra % 4))) e
+bare e = pick (ltb 127 (e .kind)) (entry 50 (e .number) (e .start) (e .length) (sigilOf (e .extra % 4))) e
 
 unfoldable pub bares : List Entry → List Entry
 bares [] = []
@@ -40,18 +41,18 @@ bares-snoc (x ∷ es) e = ap (λ (z : List Entry). bare x ∷ z) (bares-snoc es 
 
 bare-number : (e : Entry) → bare e .number ≡ e .number
 unfolding bare
-bare-number e = go (eqb (e .kind) 50)
+bare-number e = go (ltb 127 (e .kind))
   where
-    go : (c : Bool) → pick c (entry (e .kind) (e .number) (e .start) (e .length) (sigilOf (e .extra % 4))) e .number ≡ e .number
+    go : (c : Bool) → pick c (entry 50 (e .number) (e .start) (e .length) (sigilOf (e .extra % 4))) e .number ≡ e .number
     go true = refl
     go false = refl
 
 -- a name as it is made, and what is no name
-pub bare-name : (k x y g : ℕ) → Sigil g → bare (entry 50 k x y (sigilCode g)) ≡ entry 50 k x y g
+pub bare-name : (v k x y g : ℕ) → 127 < v → Sigil g → bare (entry v k x y (sigilCode g)) ≡ entry 50 k x y g
 unfolding bare
-bare-name k x y g p = ap (λ (z : ℕ). entry 50 k x y z) (ap sigilOf (code-whole g) ∙ p)
+bare-name v k x y g h p = rw (lt-ltb 127 v h) (ap (λ (z : ℕ). entry 50 k x y z) (ap sigilOf (code-whole g) ∙ p))
 
-pub bare-other : (e : Entry) → eqb (e .kind) 50 ≡ false → bare e ≡ e
+pub bare-other : (e : Entry) → ltb 127 (e .kind) ≡ false → bare e ≡ e
 unfolding bare
 bare-other e h = rw h
 
@@ -86,9 +87,9 @@ pub record Relinked (qs : List Entry) (l : List ℕ) (zs : List ℕ) : Type 0 wh
   pub words-are : l ≡ wordsOf entryWords rs ++ zs
   pub bare-same : bares rs ≡ bares qs
 
-relink-one : (y : Entry) (v : ℕ) → y .kind ≡ 50 → v % 4 ≡ y .extra % 4 → bare (entry (y .kind) (y .number) (y .start) (y .length) v) ≡ bare y
+relink-one : (y : Entry) (v : ℕ) → 127 < y .kind → v % 4 ≡ y .extra % 4 → bare (entry (y .kind) (y .number) (y .start) (y .length) v) ≡ bare y
 unfolding bare
-relink-one y v e h = rw (e, h)
+relink-one y v e h = rw (lt-ltb 127 (y .kind) e, h)
 
 relink-on : (y : Entry) (qs : List Entry) (zs : List ℕ) (k v : ℕ) → Relinked qs (set (wordsOf entryWords qs ++ zs) (4 * k + 3) v) zs
     → Relinked (y ∷ qs) (set (wordsOf entryWords (y ∷ qs) ++ zs) (4 * suc k + 3) v) zs
@@ -101,12 +102,12 @@ relink-on y qs zs k v q =
       bare-same = ap (λ (z : List Entry). bare y ∷ z) (q .bare-same);
     }
 
-pub relink : (qs : List Entry) (zs : List ℕ) (k v : ℕ) → k < length qs → kindAt (wordsOf entryWords qs ++ zs) (4 * k) ≡ 50 → v % 4 ≡ getD (wordsOf entryWords qs ++ zs) (4 * k + 3) 0 % 4
+pub relink : (qs : List Entry) (zs : List ℕ) (k v : ℕ) → k < length qs → 127 < kindAt (wordsOf entryWords qs ++ zs) (4 * k) → v % 4 ≡ getD (wordsOf entryWords qs ++ zs) (4 * k + 3) 0 % 4
     → Relinked qs (set (wordsOf entryWords qs ++ zs) (4 * k + 3) v) zs
 unfolding bares
 relink [] zs k v l e h = absurd (omega arith)
 relink (y ∷ qs) zs zero v l e h =
-    record { rs = entry (y .kind) (y .number) (y .start) (y .length) v ∷ qs; words-are = refl; bare-same = ap (λ (z : Entry). z ∷ bares qs) (relink-one y v (sym (head-kind (y .kind) (y .number)) ∙ e) h) }
+    record { rs = entry (y .kind) (y .number) (y .start) (y .length) v ∷ qs; words-are = refl; bare-same = ap (λ (z : Entry). z ∷ bares qs) (relink-one y v (rw (head-kind (y .kind) (y .number)) at e) h) }
 relink (y ∷ qs) zs (suc k) v l e h =
     let e0 : 4 * suc k ≡ suc (suc (suc (suc (4 * k)))) = omega arith in
     let e3 : 4 * suc k + 3 ≡ suc (suc (suc (suc (4 * k + 3)))) = omega arith in
@@ -141,15 +142,32 @@ code-same c g p q = go (ℕ-discrete c (sigilCode g))
     go (yes d) = eq-eqb c (sigilCode g) d ∙ sym (eq-eqb (sigilOf c) g (ap sigilOf d ∙ q))
     go (no d) = ne-eqb c (sigilCode g) d ∙ sym (ne-eqb (sigilOf c) g (λ e. d (sym p ∙ ap sigilCode e)))
 
-named-same : (t : List ℕ) (y : Entry) (x n g : ℕ) → Sigil g → (y .kind ≡ 50 → sigilCode (sigilOf (y .extra % 4)) ≡ y .extra % 4)
-    → pick (eqb (y .kind) 50) (sameName t (y .start) (y .length) (y .extra % 4) x n (sigilCode g)) false ≡ isNamed t (bare y) x n g
-unfolding bare sameName
-named-same t y x n g p h = go (eqb (y .kind) 50) refl
+guarded : (c f : Bool) → (f ≡ true → c ≡ true) → pick c f false ≡ f
+guarded true f h = refl
+guarded false true h = never (sym (h refl))
+guarded false false h = refl
+
+-- names compared by the codes of their sigils
+by-codes : (t : List ℕ) (a m c x n g : ℕ) → sigilCode (sigilOf c) ≡ c → Sigil g → sameName t a m c x n (sigilCode g) ≡ sameName t a m (sigilOf c) x n g
+unfolding sameName
+by-codes t a m c x n g h p = rw (code-same c g h p)
+
+-- an entry is the name by its tag exactly if it is the name
+named-same : (t : List ℕ) (y : Entry) (x n g : ℕ) → Sigil g → (127 < y .kind → sigilCode (sigilOf (y .extra % 4)) ≡ y .extra % 4)
+    → (127 < y .kind → y .kind ≡ tagOf (hashOf t (y .start) (y .extra % 4) (y .length))) → (y .kind ≡ 50 → ⊥)
+    → pick (eqb (y .kind) (nameTag t x n g)) (sameName t (y .start) (y .length) (y .extra % 4) x n (sigilCode g)) false ≡ isNamed t (bare y) x n g
+unfolding bare
+named-same t y x n g p h v f = go (decLt 127 (y .kind))
   where
-    go : (c : Bool) → eqb (y .kind) 50 ≡ c → pick c (sameName t (y .start) (y .length) (y .extra % 4) x n (sigilCode g)) false
-        ≡ isNamed t (pick c (entry (y .kind) (y .number) (y .start) (y .length) (sigilOf (y .extra % 4))) y) x n g
-    go true e = rw (e, code-same (y .extra % 4) g (h (eqb-true (y .kind) 50 e)) p)
-    go false e = rw e
+    go : Dec (127 < y .kind) → pick (eqb (y .kind) (nameTag t x n g)) (sameName t (y .start) (y .length) (y .extra % 4) x n (sigilCode g)) false
+        ≡ isNamed t (pick (ltb 127 (y .kind)) (entry 50 (y .number) (y .start) (y .length) (sigilOf (y .extra % 4))) y) x n g
+    go (yes d) = rw (lt-ltb 127 (y .kind) d)
+        (guarded (eqb (y .kind) (nameTag t x n g)) (sameName t (y .start) (y .length) (y .extra % 4) x n (sigilCode g))
+        (λ e. eq-eqb (y .kind) (nameTag t x n g) (v d ∙ ap tagOf (same-hash t (y .start) (y .length) (y .extra % 4) x n g e)))
+        ∙ by-codes t (y .start) (y .length) (y .extra % 4) x n g (h d) p)
+    go (no d) =
+        let u = tag-high (hashOf t x (sigilCode g) n) in
+        rw (le-ltb 127 (y .kind) (omega arith), ne-eqb (y .kind) (nameTag t x n g) (λ e. d (rw e u)), ne-eqb (y .kind) 50 f)
 
 -- searching: where it stops, and what stands there
 unfoldable pub Finds : Search → ℕ → ℕ → List ℕ → Type 0
@@ -158,7 +176,7 @@ Finds (found v) end j b = (j < end) × (payloadAt b (4 * j) ≡ v)
 
 pub lookup-finds : (t b : List ℕ) (x n g k end : ℕ) (ps es : List Entry) (zs : List ℕ) → Sigil g
     → b ≡ wordsOf entryWords ps ++ (wordsOf entryWords es ++ zs) → length ps ≡ k → k + length es ≡ end → end ≤ length b / 4
-    → ((i : ℕ) → i < end → kindAt b (4 * i) ≡ 50 → sigilCode (sigilOf (getD b (4 * i + 3) 0 % 4)) ≡ getD b (4 * i + 3) 0 % 4)
+    → {root : ℕ} → Tree t b end root
     → allSmall (bares es) ≡ true → Finds (findName t (bares es) x n g) end (lookup t b x n g k (length es)) b
 unfolding lookup findName Finds allSmall bares
 lookup-finds t b x n g k end ps [] zs v e p l r c s = omega arith
@@ -166,8 +184,11 @@ lookup-finds t b x n g k end ps (y ∷ es) zs v e p l r c s =
     let a = entry-at ps y (wordsOf entryWords es ++ zs) b k (e ∙ ap (λ (z : List ℕ). wordsOf entryWords ps ++ z) (append-assoc (entryWords y) (wordsOf entryWords es) zs)) p in
     let e′ : b ≡ wordsOf entryWords (ps ++ (y ∷ [])) ++ (wordsOf entryWords es ++ zs) =
     e ∙ rw (words-snoc entryWords ps y) (sym (append-assoc (wordsOf entryWords ps) (entryWords y) (wordsOf entryWords es ++ zs))) in
-    let d : y .kind ≡ 50 → sigilCode (sigilOf (y .extra % 4)) ≡ y .extra % 4 = λ q. rw (a .3) at (c k (omega arith) (rw (a .0, head-kind (y .kind) (y .number)) q)) in
-    rw (lt-ltb k (length b / 4) (omega arith), a .0, a .1, a .2, a .3, head-kind (y .kind) (y .number), named-same t y x n g v d)
+    let i : kindAt b (4 * k) ≡ y .kind = rw (a .0) (head-kind (y .kind) (y .number)) in
+    let d : 127 < y .kind → sigilCode (sigilOf (y .extra % 4)) ≡ y .extra % 4 = λ q. rw (a .3) at (c .sigils k (omega arith) (rw i q)) in
+    let j : 127 < y .kind → y .kind ≡ tagOf (hashOf t (y .start) (y .extra % 4) (y .length)) = λ q. rw (i, a .1, a .2, a .3) at (c .tags k (omega arith) (rw i q)) in
+    let f : y .kind ≡ 50 → ⊥ = λ q. c .kinds k (omega arith) (i ∙ q) in
+    rw (lt-ltb k (length b / 4) (omega arith), a .0, a .1, a .2, a .3, head-kind (y .kind) (y .number), named-same t y x n g v d j f)
     (go (isNamed t (bare y) x n g) (a .0) (ltb (bare y .number) 16777216) refl s
     (λ z. lookup-finds t b x n g (k + 1) end (ps ++ (y ∷ [])) es zs v e′ (length-snoc ps y ∙ ap suc p ∙ sym (add-one k)) (omega arith) r c z))
   where
@@ -178,16 +199,29 @@ lookup-finds t b x n g k end ps (y ∷ es) zs v e p l r c s =
     go false w true d i q = q i
     go c w false d i q = never (sym i)
 
--- closing up: the links are gone
+-- closing up: tags and links are gone
+head-at : (ps : List Entry) (h v : ℕ) (zs b : List ℕ) (i : ℕ) → b ≡ wordsOf entryWords ps ++ (h ∷ zs) → length ps ≡ i → set b (4 * i) v ≡ wordsOf entryWords ps ++ (v ∷ zs)
+head-at ps h v zs b i e p =
+    let w : length (wordsOf entryWords ps) ≡ 4 * i = length-words4 entryWords (λ x. refl) ps ∙ ap (λ (z : ℕ). 4 * z) p in
+    rw e (set-at (wordsOf entryWords ps) h zs v (4 * i) w)
+
+kind-anew : (k n : ℕ) → wordOf 50 (wordOf k n) ≡ wordOf 50 n
+kind-anew k n = omega arith
+
 unlink-one : (ps : List Entry) (y : Entry) (zs b : List ℕ) (k : ℕ) → b ≡ wordsOf entryWords ps ++ (entryWords y ++ zs) → length ps ≡ k
     → unlinkAt b k ≡ wordsOf entryWords ps ++ (entryWords (bare y) ++ zs)
 unfolding bare
 unlink-one ps y zs b k e p =
     let a = entry-at ps y zs b k e p in
-    rw (a .0, a .3, head-kind (y .kind) (y .number)) (go (eqb (y .kind) 50))
+    let n : length b ≡ length (wordsOf entryWords ps) + length (entryWords y ++ zs) = rw e (length-append (wordsOf entryWords ps) (entryWords y ++ zs)) in
+    let r : k < length b / 4 = omega (arith, length-words4 entryWords (λ x. refl) ps) in
+    rw (lt-ltb k (length b / 4) r, a .0, a .3, head-kind (y .kind) (y .number), kind-anew (y .kind) (y .number)) (go (ltb 127 (y .kind)))
   where
-    go : (c : Bool) → pick c (set b (4 * k + 3) (sigilOf (y .extra % 4))) b ≡ wordsOf entryWords ps ++ (entryWords (pick c (entry (y .kind) (y .number) (y .start) (y .length) (sigilOf (y .extra % 4))) y) ++ zs)
-    go true = last-at ps (y .kind) (y .number) (y .start) (y .length) (y .extra) (sigilOf (y .extra % 4)) zs b k e p
+    go : (c : Bool) → pick c (set (set b (4 * k) (wordOf 50 (y .number))) (4 * k + 3) (sigilOf (y .extra % 4))) b
+        ≡ wordsOf entryWords ps ++ (entryWords (pick c (entry 50 (y .number) (y .start) (y .length) (sigilOf (y .extra % 4))) y) ++ zs)
+    go true =
+        last-at ps 50 (y .number) (y .start) (y .length) (y .extra) (sigilOf (y .extra % 4)) zs (set b (4 * k) (wordOf 50 (y .number))) k
+        (head-at ps (wordOf (y .kind) (y .number)) (wordOf 50 (y .number)) (y .start ∷ y .length ∷ y .extra ∷ zs) b k e p) p
     go false = e
 
 unlink-words : (ps es : List Entry) (zs b : List ℕ) (k : ℕ) → b ≡ wordsOf entryWords ps ++ (wordsOf entryWords es ++ zs) → length ps ≡ k
@@ -210,8 +244,8 @@ unlink-all size qs b e =
 pub unlink-length : (b : List ℕ) (k left : ℕ) → length (unlinkFrom b k left) ≡ length b
 unfolding unlinkFrom
 unlink-length b k zero = refl
-unlink-length b k (suc left) = unlink-length (unlinkAt b k) (k + 1) left ∙ one (eqb (kindAt b (4 * k)) 50)
+unlink-length b k (suc left) = unlink-length (unlinkAt b k) (k + 1) left ∙ one (both (ltb k (length b / 4)) (ltb 127 (kindAt b (4 * k))))
   where
-    one : (c : Bool) → length (pick c (set b (4 * k + 3) (sigilOf (getD b (4 * k + 3) 0 % 4))) b) ≡ length b
-    one true = length-set b (4 * k + 3) (sigilOf (getD b (4 * k + 3) 0 % 4))
+    one : (c : Bool) → length (pick c (set (set b (4 * k) (wordOf 50 (getD b (4 * k) 0))) (4 * k + 3) (sigilOf (getD b (4 * k + 3) 0 % 4))) b) ≡ length b
+    one true = simp length-set
     one false = refl

@@ -49,6 +49,8 @@ sim-start t L N B = record {
       reached = λ w. absurd (omega arith);
       links = λ k l. absurd (omega arith);
       sigils = λ k l. absurd (omega arith);
+      tags = λ k l. absurd (omega arith);
+      kinds = λ k l. absurd (omega arith);
     }
 
     empty : (size : ℕ) → replicate size 0 ≡ fill size []

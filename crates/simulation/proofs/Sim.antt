@@ -14,12 +14,12 @@ use Rattle.recorder.specs.declared.codegen.St.{St}
 use Rattle.recorder.specs.Word.{pick, kind, payloadAt, wordOf, rangeWord}
 use Rattle.recorder.specs.Ideal.{Rec, rec, noteOf, Entry, entry, Ideal, ideal, idealR, howMany, nextNumber, added, Search, missing, found, findName, symbolIn, symbolOf, change, withA, withC, settled, unlabelled, noRec, lookOf, firstOf}
 use Rattle.recorder.specs.Layout.{recWords, noteWords, entryWords, wordsOf, fill, mostRecords}
-use Rattle.recorder.specs.Mem.{Mem, mem, memR, low, more, withRecords, withNotes, withEntries, withNames, putList, putSt, four, noteList, noteSt, entryList, entrySt, sigilCode, withLink, known, descentTo, entryOf, linked, rootOf, unlinkFrom, unlinked, symbolNumber, symbolList, symbolSt, datumList, datumSt, byteList, byteSt, part, atRec, onRec, setA, setC, settleArgs, clearArgs, recOf, lookAt}
-use Rattle.recorder.proofs.Words.{length-snoc, put5, put4, words-snoc, length-words4, length-words, change-length, change-out, change-words, squash, rec-of}
+use Rattle.recorder.specs.Mem.{Mem, mem, memR, low, more, withRecords, withNotes, withEntries, withNames, putList, putSt, four, noteList, noteSt, entryList, entrySt, sigilCode, hashOf, nameTag, withLink, known, descentTo, entryOf, linked, rootOf, unlinkFrom, unlinked, symbolNumber, symbolList, symbolSt, datumList, datumSt, byteList, byteSt, part, atRec, onRec, setA, setC, settleArgs, clearArgs, recOf, lookAt}
+use Rattle.recorder.proofs.Words.{head-kind, length-snoc, put5, put4, words-snoc, length-words4, length-words, change-length, change-out, change-words, squash, rec-of}
 use Rattle.recorder.proofs.Bools.{never}
 use Rattle.simulation.proofs.Hide.{fresh, hideRec, hide, hide-length, hide-snoc, hide-true, hide-at, change-hidden, blind-same, blind-a, blind-c, blind-settled, blind-unlabelled, hide-number, hide-call, hide-line, hide-c, hide-b, freshRec, allFresh, fresh-snoc, fresh-at, fresh-change}
 use Rattle.simulation.proofs.Simulation.{Sigil, Looks, SameLine}
-use Rattle.simulation.proofs.Tree.{side, Tree, Linking, from-none, from-name, linking, link-code, tree-other, tree-name, linked-length, seek-is}
+use Rattle.simulation.proofs.Tree.{side, Tree, Linking, from-none, from-name, linking, link-code, tree-other, tree-name, linked-length, tag-high, seek-is}
 use Rattle.simulation.proofs.Book.{bare, bares, bares-length, bares-snoc, bare-name, bare-other, relink, put-entry, allSmall, small-snoc, Finds, lookup-finds, unlink-all, unlink-length}
 
 -- a count that stays where the room ends, and a flag that says so
@@ -330,31 +330,31 @@ pub record Puts (t : List ℕ) (size : ℕ) (is : List Entry) (b′ : List ℕ) 
   pub bare-are : bares rs ≡ is
   pub tree : Tree t (four b′ n h x y z) (n + 1) root
 
--- an entry of a kind whose count is n
-module _ (t : List ℕ) (size : ℕ) (is : List Entry) (b b′ : List ℕ) (st : St) (k n x y z z′ root : ℕ)
+-- an entry of a kind whose count is n, v in its head
+module _ (t : List ℕ) (size : ℕ) (is : List Entry) (b b′ : List ℕ) (st : St) (k v n x y z z′ root : ℕ)
     (s : Booked t size is b (st .entries) (st .names) (st .datums) (st .bytes) (st .root) (st .bfull)) (same : length b′ ≡ length b)
-    (bared : bare (entry k (nextNumber k is) x y z) ≡ entry k (nextNumber k is) x y z′) where
-  entry-written : st .bfull ≡ false → st .entries < length b / 4 → n ≡ howMany k is → Puts t size is b′ (st .entries) (wordOf k (nextNumber k is)) x y z root
-      → Written t size (added k is x y z′) (entryList b′ st (wordOf k (low n)) x y z) root
+    (bared : bare (entry v (nextNumber k is) x y z) ≡ entry k (nextNumber k is) x y z′) where
+  entry-written : st .bfull ≡ false → st .entries < length b / 4 → n ≡ howMany k is → Puts t size is b′ (st .entries) (wordOf v (nextNumber k is)) x y z root
+      → Written t size (added k is x y z′) (entryList b′ st (wordOf v (low n)) x y z) root
   entry-written f r c p =
       let l : length is ≡ st .entries = held-count (s .held) f in
       let m : length (p .rs) ≡ st .entries = sym (bares-length (p .rs)) ∙ ap length (p .bare-are) ∙ l in
       let r′ : st .entries < length b′ / 4 = rw same r in
       let u : length (added k is x y z′) ≡ st .entries + 1 = omega (arith, length-snoc is (entry k (nextNumber k is) x y z′)) in
-      rw (c, entry-put b′ st (wordOf k (nextNumber k is)) x y z r′) (record {
-        qs = p .rs ++ (entry k (nextNumber k is) x y z ∷ []);
-        words-are = put-entry size (p .rs) b′ (st .entries) k (nextNumber k is) x y z (p .words-are) m (omega (arith, s .long));
-        bare-are = bares-snoc (p .rs) (entry k (nextNumber k is) x y z) ∙ rw (p .bare-are, bared);
+      rw (c, entry-put b′ st (wordOf v (nextNumber k is)) x y z r′) (record {
+        qs = p .rs ++ (entry v (nextNumber k is) x y z ∷ []);
+        words-are = put-entry size (p .rs) b′ (st .entries) v (nextNumber k is) x y z (p .words-are) m (omega (arith, s .long));
+        bare-are = bares-snoc (p .rs) (entry v (nextNumber k is) x y z) ∙ rw (p .bare-are, bared);
         tree = rw u (p .tree);
       })
 
-  booked-entry : (st .bfull ≡ false → n ≡ howMany k is) → (st .bfull ≡ false → st .entries < length b / 4 → Puts t size is b′ (st .entries) (wordOf k (nextNumber k is)) x y z root)
-      → Booked t size (added k is x y z′) (entryList b′ st (wordOf k (low n)) x y z)
+  booked-entry : (st .bfull ≡ false → n ≡ howMany k is) → (st .bfull ≡ false → st .entries < length b / 4 → Puts t size is b′ (st .entries) (wordOf v (nextNumber k is)) x y z root)
+      → Booked t size (added k is x y z′) (entryList b′ st (wordOf v (low n)) x y z)
       (pick (ltb (st .entries) (length b / 4)) (st .entries + 1) (st .entries))
       (pick (eqb k 50) (more (st .names) (length b / 4)) (st .names)) (pick (eqb k 51) (more (st .datums) (length b / 4)) (st .datums)) (pick (eqb k 52) (more (st .bytes) (length b / 4)) (st .bytes))
       root (pick (ltb (st .entries) (length b / 4)) (st .bfull) true)
   booked-entry h p = record {
-    long = entry-long b′ st (wordOf k (low n)) x y z ∙ same ∙ s .long;
+    long = entry-long b′ st (wordOf v (low n)) x y z ∙ same ∙ s .long;
     held = rw (length-snoc is (entry k (nextNumber k is) x y z′), s .long) (held-put (size / 4) (length is) (st .entries) (st .bfull) (s .held));
     small = small-snoc is (entry k (nextNumber k is) x y z′) (s .small) (small-number k is);
     written = λ f.
@@ -368,18 +368,18 @@ module _ (t : List ℕ) (size : ℕ) (is : List Entry) (b b′ : List ℕ) (st :
 
 -- an entry that is no name
 booked-other : (t : List ℕ) (size : ℕ) (is : List Entry) (b : List ℕ) (st : St) (k n x y z : ℕ) → Booked t size is b (st .entries) (st .names) (st .datums) (st .bytes) (st .root) (st .bfull)
-    → (k ≡ 50 → ⊥) → (st .bfull ≡ false → n ≡ howMany k is)
+    → (k ≡ 50 → ⊥) → k < 128 → (st .bfull ≡ false → n ≡ howMany k is)
     → Booked t size (added k is x y z) (entryList b st (wordOf k (low n)) x y z)
     (pick (ltb (st .entries) (length b / 4)) (st .entries + 1) (st .entries))
     (pick (eqb k 50) (more (st .names) (length b / 4)) (st .names)) (pick (eqb k 51) (more (st .datums) (length b / 4)) (st .datums)) (pick (eqb k 52) (more (st .bytes) (length b / 4)) (st .bytes))
     (st .root) (pick (ltb (st .entries) (length b / 4)) (st .bfull) true)
-booked-other t size is b st k n x y z s e h =
-    booked-entry t size is b b st k n x y z z (st .root) s refl (bare-other (entry k (nextNumber k is) x y z) (ne-eqb k 50 e)) h
+booked-other t size is b st k n x y z s e j h =
+    booked-entry t size is b b st k k n x y z z (st .root) s refl (bare-other (entry k (nextNumber k is) x y z) (le-ltb 127 k (omega arith))) h
     (λ f r. let w = s .written f in record {
       rs = w .qs;
       words-are = w .words-are;
       bare-are = w .bare-are;
-      tree = tree-other t b (st .entries) (st .root) (wordOf k (nextNumber k is)) x y z r (λ q. e (omega arith)) (rw (held-count (s .held) f) at (w .tree));
+      tree = tree-other t b (st .entries) (st .root) (wordOf k (nextNumber k is)) x y z r (λ q. omega arith) (λ q. e (omega arith)) (rw (held-count (s .held) f) at (w .tree));
     })
 
 -- a symbol: it is found, or it is made
@@ -389,7 +389,7 @@ unfolding symbolList symbolSt symbolNumber
 symbol-kept t b st x n g h = let l = lt-ltb (entryOf t b st x n g) (known b st) h in (rw l, rw l, rw l)
 
 symbol-made : (t b : List ℕ) (st : St) (x n g : ℕ) → known b st ≤ entryOf t b st x n g
-    → (symbolList t b st x n g ≡ entryList (linked b st (descentTo t b st x n g)) st (wordOf 50 (low (st .names))) x n (sigilCode g))
+    → (symbolList t b st x n g ≡ entryList (linked b st (descentTo t b st x n g)) st (wordOf (nameTag t x n g) (low (st .names))) x n (sigilCode g))
     × (symbolSt t b st x n g ≡ withNames (entrySt b st) (more (st .names) (length b / 4)) (rootOf b st)) × (symbolNumber t b st x n g ≡ low (st .names))
 unfolding symbolList symbolSt symbolNumber
 symbol-made t b st x n g h = let l = le-ltb (entryOf t b st x n g) (known b st) h in (rw l, rw l, rw l)
@@ -408,7 +408,7 @@ search-same t size is b st x n g p s f =
     let T : Tree t b (known b st) (st .root) = rw e (w .tree) in
     let m : known b st ≡ length (w .qs) = e ∙ sym (written-length w) in
     let l = lookup-finds t b x n g 0 (length is) [] (w .qs) (replicate (size - length (wordsOf entryWords (w .qs))) 0) p (w .words-are) refl (omega (arith, written-length w)) (omega arith)
-    (w .tree .sigils) (rw (w .bare-are) (s .small)) in
+    (w .tree) (rw (w .bare-are) (s .small)) in
     record {
       known-is = e;
       tree = T;
@@ -422,7 +422,7 @@ pub record Symbols (t : List ℕ) (size : ℕ) (is : List Entry) (b : List ℕ) 
 
 -- the link of a new name is set in the words of an earlier one
 name-puts : (t : List ℕ) (size : ℕ) (is : List Entry) (b : List ℕ) (st : St) (x n g h : ℕ) → Written t size is b (st .root) → length is ≡ st .entries → Tree t b (known b st) (st .root) → entryOf t b st x n g ≡ known b st
-    → st .entries < length b / 4 → kind h ≡ 50 → Puts t size is (linked b st (descentTo t b st x n g)) (st .entries) h x n (sigilCode g) (rootOf b st)
+    → st .entries < length b / 4 → kind h ≡ nameTag t x n g → Puts t size is (linked b st (descentTo t b st x n g)) (st .entries) h x n (sigilCode g) (rootOf b st)
 name-puts t size is b st x n g h w l T a r k = go (linking t b x n g h st T a r k)
   where
     tree : Tree t (four (linked b st (descentTo t b st x n g)) (st .entries) h x n (sigilCode g)) (st .entries + 1) (rootOf b st)
@@ -449,8 +449,8 @@ made t size is b st x n g p s o a =
     let m = symbol-made t b st x n g (omega arith) in
     record {
       booked = rw (m .0, m .1, entry-form b st)
-          (booked-entry t size is b (linked b st (descentTo t b st x n g)) st 50 (st .names) x n (sigilCode g) g (rootOf b st) s (linked-length t b x n g st) (bare-name (nextNumber 50 is) x n g p) (λ f. s .counted f .names-are)
-          (λ f r. name-puts t size is b st x n g (wordOf 50 (nextNumber 50 is)) (s .written f) (held-count (s .held) f) (o .tree) a r (omega arith)));
+          (booked-entry t size is b (linked b st (descentTo t b st x n g)) st 50 (nameTag t x n g) (st .names) x n (sigilCode g) g (rootOf b st) s (linked-length t b x n g st) (bare-name (nameTag t x n g) (nextNumber 50 is) x n g (tag-high (hashOf t x (sigilCode g) n)) p) (λ f. s .counted f .names-are)
+          (λ f r. name-puts t size is b st x n g (wordOf (nameTag t x n g) (nextNumber 50 is)) (s .written f) (held-count (s .held) f) (o .tree) a r (head-kind (nameTag t x n g) (nextNumber 50 is))));
       number = rw (m .1, m .2, entry-form b st) (λ f. ap low (sym (s .counted (pick-sticky (ltb (st .entries) (length b / 4)) (st .bfull) f .1) .names-are)));
     }
 
@@ -479,8 +479,8 @@ over-made t size is ks b st x n g v s f h i (no d) =
     let o : ltb (st .entries) (length b / 4) ≡ false = rw (s .long) (held-none (s .held) (omega (arith, held-full (s .held) f))) in
     record {
       booked = rw (m .0, m .1, entry-form b st, o)
-          (over t size is ks b (entryList (linked b st (descentTo t b st x n g)) st (wordOf 50 (low (st .names))) x n (sigilCode g)) (st .entries) (st .names) (st .datums) (st .bytes) (st .root) (more (st .names) (length b / 4)) (rootOf b st) (st .bfull) s f h i
-          (entry-long (linked b st (descentTo t b st x n g)) st (wordOf 50 (low (st .names))) x n (sigilCode g) ∙ linked-length t b x n g st));
+          (over t size is ks b (entryList (linked b st (descentTo t b st x n g)) st (wordOf (nameTag t x n g) (low (st .names))) x n (sigilCode g)) (st .entries) (st .names) (st .datums) (st .bytes) (st .root) (more (st .names) (length b / 4)) (rootOf b st) (st .bfull) s f h i
+          (entry-long (linked b st (descentTo t b st x n g)) st (wordOf (nameTag t x n g) (low (st .names))) x n (sigilCode g) ∙ linked-length t b x n g st));
       number = rw (m .1, entry-form b st, o) (λ z. never z);
     }
 
@@ -629,7 +629,7 @@ module _ (L N B : ℕ) (t : List ℕ) (clean : Ideal → Ideal) where
       record {
         listed = listed-later L (i .records) (m .list) (entrySt (m .book) (m .st) .records) (entrySt (m .book) (m .st) .lfull) (m .st .bfull) (entrySt (m .book) (m .st) .bfull) (entry-later (m .book) (m .st)) (rw z (s .listed));
         noted = rw z (s .noted);
-        booked = rw z (booked-other t B (i .entries) (m .book) (m .st) 51 (m .st .datums) x n q (s .booked) (λ e. omega arith) (λ f. s .booked .counted f .datums-are));
+        booked = rw z (booked-other t B (i .entries) (m .book) (m .st) 51 (m .st .datums) x n q (s .booked) (λ e. omega arith) (omega arith) (λ f. s .booked .counted f .datums-are));
         line = rw z (s .line);
         first-none = first-some (i .firstDatum) (nextNumber 51 (i .entries)) ∙ sym (first-some (m .st .first) (low (m .st .datums)));
         first-is = λ f. let g = entry-later (m .book) (m .st) f in
@@ -644,7 +644,7 @@ module _ (L N B : ℕ) (t : List ℕ) (clean : Ideal → Ideal) where
       record {
         listed = listed-later L (i .records) (m .list) (entrySt (m .book) (m .st) .records) (entrySt (m .book) (m .st) .lfull) (m .st .bfull) (entrySt (m .book) (m .st) .bfull) (entry-later (m .book) (m .st)) (rw z (s .listed));
         noted = rw z (s .noted);
-        booked = rw z (booked-other t B (i .entries) (m .book) (m .st) 52 (m .st .bytes) x n v (s .booked) (λ e. omega arith) (λ f. s .booked .counted f .bytes-are));
+        booked = rw z (booked-other t B (i .entries) (m .book) (m .st) 52 (m .st .bytes) x n v (s .booked) (λ e. omega arith) (omega arith) (λ f. s .booked .counted f .bytes-are));
         line = rw z (s .line);
         first-none = rw z (s .first-none);
         first-is = λ f. rw z (s .first-is (entry-later (m .book) (m .st) f));

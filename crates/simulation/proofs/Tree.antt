@@ -13,7 +13,7 @@ use Rattle.recorder.specs.declared.codegen.St.{St}
 use Rattle.recorder.specs.declared.codegen.Descent.{Descent}
 use Rattle.recorder.specs.Word.{pick, both, kind, kindAt, next}
 use Rattle.recorder.specs.Name.{upper, sameUnits, sameName}
-use Rattle.recorder.specs.Mem.{four, sigilCode, sigilOf, linkOf, withLink, known, namedAt, lookup, hashStep, hashOf, childOf, hasChild, descentFrom, descentTo, entryOf, mayLink, linkedAt, linked, rootOf}
+use Rattle.recorder.specs.Mem.{four, sigilCode, sigilOf, linkOf, withLink, known, tagOf, nameTag, namedAt, lookup, hashStep, hashOf, childOf, hasChild, descentFrom, descentTo, entryOf, mayLink, linkedAt, linked, rootOf}
 use Rattle.recorder.proofs.Bools.{never, both-parts, both-false}
 
 pick-true : (c a : Bool) → pick c a false ≡ true → (c ≡ true) × (a ≡ true)
@@ -44,14 +44,19 @@ reach-le : {b : List ℕ} {i at bits : ℕ} → Reach b i at bits → at ≤ i
 reach-le (here e) = omega arith
 reach-le (onto h r) = omega (arith, reach-le r)
 
--- the tree: the names below 32,768 are reached from the first; a link leads to a name
+-- the tree: the names below 32,768 are reached from the first; a link leads to a name; a name has its tag, and no kind is 50
 pub record Tree (t b : List ℕ) (n root : ℕ) : Type 0 where
-  pub none : root ≡ 0 → (k : ℕ) → k < n → k < 32768 → kindAt b (4 * k) ≡ 50 → ⊥
-  pub first : 0 < root → (root - 1 < n) × (root - 1 < 32768) × (kindAt b (4 * (root - 1)) ≡ 50)
-  pub reached : 0 < root → (k : ℕ) → k < n → k < 32768 → kindAt b (4 * k) ≡ 50 → Reach b k (root - 1) (turnsAt t b k)
-  pub links : (k : ℕ) → k < n → kindAt b (4 * k) ≡ 50 → (h : Bool) → 0 < linkFrom b h k
-      → (linkFrom b h k < n) × (linkFrom b h k < 32768) × (kindAt b (4 * linkFrom b h k) ≡ 50)
-  pub sigils : (k : ℕ) → k < n → kindAt b (4 * k) ≡ 50 → sigilCode (sigilOf (getD b (4 * k + 3) 0 % 4)) ≡ getD b (4 * k + 3) 0 % 4
+  pub none : root ≡ 0 → (k : ℕ) → k < n → k < 32768 → 127 < kindAt b (4 * k) → ⊥
+  pub first : 0 < root → (root - 1 < n) × (root - 1 < 32768) × (127 < kindAt b (4 * (root - 1)))
+  pub reached : 0 < root → (k : ℕ) → k < n → k < 32768 → 127 < kindAt b (4 * k) → Reach b k (root - 1) (turnsAt t b k)
+  pub links : (k : ℕ) → k < n → 127 < kindAt b (4 * k) → (h : Bool) → 0 < linkFrom b h k
+      → (linkFrom b h k < n) × (linkFrom b h k < 32768) × (127 < kindAt b (4 * linkFrom b h k))
+  pub sigils : (k : ℕ) → k < n → 127 < kindAt b (4 * k) → sigilCode (sigilOf (getD b (4 * k + 3) 0 % 4)) ≡ getD b (4 * k + 3) 0 % 4
+  pub tags : (k : ℕ) → k < n → 127 < kindAt b (4 * k) → kindAt b (4 * k) ≡ tagOf (turnsAt t b k)
+  pub kinds : (k : ℕ) → k < n → kindAt b (4 * k) ≡ 50 → ⊥
+
+pub tag-high : (h : ℕ) → 127 < tagOf h
+tag-high h = omega arith
 
 -- equal names have the same bits
 same-turns : (t : List ℕ) (a c h n : ℕ) → sameUnits t a c n ≡ true → hashOf t a h n ≡ hashOf t c h n
@@ -61,18 +66,23 @@ same-turns t a c h (suc n) e =
     let p = pick-true (eqb (upper (getD t a 0)) (upper (getD t c 0))) (sameUnits t (next t a) (next t c) n) e in
     rw (eqb-true (upper (getD t a 0)) (upper (getD t c 0)) (p .0)) (same-turns t (next t a) (next t c) (hashStep h (upper (getD t c 0))) n (p .1))
 
-named-is : (t b : List ℕ) (k x n g : ℕ) → namedAt t b k x n g ≡ true → (k < length b / 4) × (kindAt b (4 * k) ≡ 50) × (turnsAt t b k ≡ hashOf t x (sigilCode g) n)
+pub same-hash : (t : List ℕ) (a m c x n g : ℕ) → sameName t a m c x n (sigilCode g) ≡ true → hashOf t a c m ≡ hashOf t x (sigilCode g) n
 unfolding sameName
+same-hash t a m c x n g e =
+    let r = pick-true (eqb m n) (pick (eqb c (sigilCode g)) (sameUnits t a x m) false) e in
+    let s = pick-true (eqb c (sigilCode g)) (sameUnits t a x m) (r .1) in
+    let w : sameUnits t a x n ≡ true = rw (eqb-true m n (r .0)) at (s .1) in
+    rw (eqb-true m n (r .0), eqb-true c (sigilCode g) (s .0)) (same-turns t a x (sigilCode g) n w)
+
+named-is : (t b : List ℕ) (k x n g : ℕ) → namedAt t b k x n g ≡ true → (k < length b / 4) × (127 < kindAt b (4 * k)) × (turnsAt t b k ≡ hashOf t x (sigilCode g) n)
 named-is t b k x n g e =
     let a : ℕ = getD b (4 * k + 1) 0 in
     let m : ℕ = getD b (4 * k + 2) 0 in
     let y : ℕ = getD b (4 * k + 3) 0 in
-    let p = pick-true (ltb k (length b / 4)) (pick (eqb (kindAt b (4 * k)) 50) (sameName t a m (y % 4) x n (sigilCode g)) false) e in
-    let q = pick-true (eqb (kindAt b (4 * k)) 50) (sameName t a m (y % 4) x n (sigilCode g)) (p .1) in
-    let r = pick-true (eqb m n) (pick (eqb (y % 4) (sigilCode g)) (sameUnits t a x m) false) (q .1) in
-    let s = pick-true (eqb (y % 4) (sigilCode g)) (sameUnits t a x m) (r .1) in
-    let w : sameUnits t a x n ≡ true = rw (eqb-true m n (r .0)) at (s .1) in
-    (ltb-true k (length b / 4) (p .0), eqb-true (kindAt b (4 * k)) 50 (q .0), rw (eqb-true m n (r .0), eqb-true (y % 4) (sigilCode g) (s .0)) (same-turns t a x (sigilCode g) n w))
+    let p = pick-true (ltb k (length b / 4)) (pick (eqb (kindAt b (4 * k)) (nameTag t x n g)) (sameName t a m (y % 4) x n (sigilCode g)) false) e in
+    let q = pick-true (eqb (kindAt b (4 * k)) (nameTag t x n g)) (sameName t a m (y % 4) x n (sigilCode g)) (p .1) in
+    let v : kindAt b (4 * k) ≡ nameTag t x n g = eqb-true (kindAt b (4 * k)) (nameTag t x n g) (q .0) in
+    (ltb-true k (length b / 4) (p .0), rw v (tag-high (hashOf t x (sigilCode g) n)), same-hash t a m (y % 4) x n g (q .1))
 
 -- the descent from an entry to another
 pub data Walk (b : List ℕ) (end e u : ℕ) : ℕ → ℕ → Type 0 where
@@ -82,7 +92,7 @@ pub data Walk (b : List ℕ) (end e u : ℕ) : ℕ → ℕ → Type 0 where
 abbrev descent : ℕ → ℕ → Descent
 descent at bits = record { at = at; bits = bits }
 
-walk-name : {t b : List ℕ} {n root e u at bits : ℕ} → Tree t b n root → Walk b n e u at bits → at < n → at < 32768 → kindAt b (4 * at) ≡ 50 → (e < n) × (e < 32768) × (kindAt b (4 * e) ≡ 50)
+walk-name : {t b : List ℕ} {n root e u at bits : ℕ} → Tree t b n root → Walk b n e u at bits → at < n → at < 32768 → 127 < kindAt b (4 * at) → (e < n) × (e < 32768) × (127 < kindAt b (4 * e))
 walk-name T (stay h i) l m k = rw (← h) (l, m, k)
 walk-name T (move {at} {bits} h i w) l m k =
     let q = T .links at l k (side bits) (omega arith) in
@@ -208,7 +218,7 @@ module _ (t b : List ℕ) (x n g : ℕ) (s : St) (T : Tree t b (known b s) (s .r
       first-skip t b x n g (min N 32768) N (lookup t b x n g (min N 32768) (N - 32768)) (rw z at (lookup-first t b x n g (min (known b s) 32768) (known b s - 32768)))
       (λ i l. is-false (namedAt t b i x n g) (λ e. f i (omega arith) (omega arith) e))
 
-  end-name : 0 < s .root → (E .at < N) × (E .at < 32768) × (kindAt b (4 * E .at) ≡ 50)
+  end-name : 0 < s .root → (E .at < N) × (E .at < 32768) × (127 < kindAt b (4 * E .at))
   end-name w =
       let q = T .first w in
       walk-name T (descent-walks t b N x n g (omega arith) (s .root - 1) (hashOf t x (sigilCode g) n) N (q .0)) (q .0) (q .1) (q .2)
@@ -246,7 +256,7 @@ module _ (t b : List ℕ) (x n g : ℕ) (s : St) (T : Tree t b (known b s) (s .r
 -- One entry more: what stands before it is the same, but that one link may lead to it.
 pub data NewLink (b b′ : List ℕ) (n k : ℕ) (h : Bool) : Type 0 where
   as-was : linkFrom b′ h k ≡ linkFrom b h k → NewLink b b′ n k h
-  to-new : linkFrom b′ h k ≡ n → n < 32768 → kindAt b′ (4 * n) ≡ 50 → NewLink b b′ n k h
+  to-new : linkFrom b′ h k ≡ n → n < 32768 → 127 < kindAt b′ (4 * n) → NewLink b b′ n k h
 
 pub record Grown (b b′ : List ℕ) (n : ℕ) : Type 0 where
   pub head : (k : ℕ) → k < n → getD b′ (4 * k) 0 ≡ getD b (4 * k) 0
@@ -273,35 +283,36 @@ walk-grown G (move {at} {bits} h l w) r =
 pub record Fresh (t b : List ℕ) (n root : ℕ) : Type 0 where
   pub no-links : (h : Bool) → linkFrom b h n ≡ 0
   pub sigil : sigilCode (sigilOf (getD b (4 * n + 3) 0 % 4)) ≡ getD b (4 * n + 3) 0 % 4
+  pub tag : kindAt b (4 * n) ≡ tagOf (turnsAt t b n)
   pub some-root : n < 32768 → 0 < root
   pub is-reached : n < 32768 → Reach b n (root - 1) (turnsAt t b n)
 
 module _ (t b b′ : List ℕ) (n : ℕ) (G : Grown b b′ n) where
-  kind-same : (k : ℕ) → k < n → kindAt b′ (4 * k) ≡ 50 → kindAt b (4 * k) ≡ 50
+  kind-same : (k : ℕ) → k < n → 127 < kindAt b′ (4 * k) → 127 < kindAt b (4 * k)
   kind-same k l e = rw (G .head k l) at e
 
-  kind-still : (k : ℕ) → k < n → kindAt b (4 * k) ≡ 50 → kindAt b′ (4 * k) ≡ 50
+  kind-still : (k : ℕ) → k < n → 127 < kindAt b (4 * k) → 127 < kindAt b′ (4 * k)
   kind-still k l e = rw (G .head k l) e
 
   turns-same : (k : ℕ) → k < n → turnsAt t b′ k ≡ turnsAt t b k
   turns-same k l = rw (G .start k l, G .size k l, G .code k l)
 
   -- the links and the sigils, whatever the root
-  links-grown : (root root′ : ℕ) → Tree t b n root → (kindAt b′ (4 * n) ≡ 50 → Fresh t b′ n root′) → (k : ℕ) → k < n + 1 → kindAt b′ (4 * k) ≡ 50 → (h : Bool) → 0 < linkFrom b′ h k
-      → (linkFrom b′ h k < n + 1) × (linkFrom b′ h k < 32768) × (kindAt b′ (4 * linkFrom b′ h k) ≡ 50)
+  links-grown : (root root′ : ℕ) → Tree t b n root → (127 < kindAt b′ (4 * n) → Fresh t b′ n root′) → (k : ℕ) → k < n + 1 → 127 < kindAt b′ (4 * k) → (h : Bool) → 0 < linkFrom b′ h k
+      → (linkFrom b′ h k < n + 1) × (linkFrom b′ h k < 32768) × (127 < kindAt b′ (4 * linkFrom b′ h k))
   links-grown root root′ T F k l e h p = go (decLt k n)
     where
-      old : (k < n) → NewLink b b′ n k h → (linkFrom b′ h k < n + 1) × (linkFrom b′ h k < 32768) × (kindAt b′ (4 * linkFrom b′ h k) ≡ 50)
+      old : (k < n) → NewLink b b′ n k h → (linkFrom b′ h k < n + 1) × (linkFrom b′ h k < 32768) × (127 < kindAt b′ (4 * linkFrom b′ h k))
       old d (as-was q) =
           let r = T .links k d (kind-same k d e) h (rw q at p) in
           rw q (omega (arith, r .0), r .1, kind-still (linkFrom b h k) (r .0) (r .2))
       old d (to-new q r s) = rw q (omega arith, r, s)
 
-      go : Dec (k < n) → (linkFrom b′ h k < n + 1) × (linkFrom b′ h k < 32768) × (kindAt b′ (4 * linkFrom b′ h k) ≡ 50)
+      go : Dec (k < n) → (linkFrom b′ h k < n + 1) × (linkFrom b′ h k < 32768) × (127 < kindAt b′ (4 * linkFrom b′ h k))
       go (yes d) = old d (G .new k d h)
       go (no d) = let z : k ≡ n = omega arith in absurd (let f = F (rw z at e) .no-links h in let q = rw z at p in omega arith)
 
-  sigils-grown : (root root′ : ℕ) → Tree t b n root → (kindAt b′ (4 * n) ≡ 50 → Fresh t b′ n root′) → (k : ℕ) → k < n + 1 → kindAt b′ (4 * k) ≡ 50
+  sigils-grown : (root root′ : ℕ) → Tree t b n root → (127 < kindAt b′ (4 * n) → Fresh t b′ n root′) → (k : ℕ) → k < n + 1 → 127 < kindAt b′ (4 * k)
       → sigilCode (sigilOf (getD b′ (4 * k + 3) 0 % 4)) ≡ getD b′ (4 * k + 3) 0 % 4
   sigils-grown root root′ T F k l e = go (decLt k n)
     where
@@ -309,34 +320,53 @@ module _ (t b b′ : List ℕ) (n : ℕ) (G : Grown b b′ n) where
       go (yes d) = rw (G .code k d) (T .sigils k d (kind-same k d e))
       go (no d) = let z : k ≡ n = omega arith in rw z (F (rw z at e) .sigil)
 
-  tree-grown : (root : ℕ) → Tree t b n root → (kindAt b′ (4 * n) ≡ 50 → Fresh t b′ n root) → Tree t b′ (n + 1) root
-  tree-grown root T F = record {
+  tags-grown : (root root′ : ℕ) → Tree t b n root → (127 < kindAt b′ (4 * n) → Fresh t b′ n root′) → (k : ℕ) → k < n + 1 → 127 < kindAt b′ (4 * k)
+      → kindAt b′ (4 * k) ≡ tagOf (turnsAt t b′ k)
+  tags-grown root root′ T F k l e = go (decLt k n)
+    where
+      go : Dec (k < n) → kindAt b′ (4 * k) ≡ tagOf (turnsAt t b′ k)
+      go (yes d) = ap kind (G .head k d) ∙ T .tags k d (kind-same k d e) ∙ ap tagOf (sym (turns-same k d))
+      go (no d) = let z : k ≡ n = omega arith in rw z (F (rw z at e) .tag)
+
+  kinds-grown : (root : ℕ) → Tree t b n root → (kindAt b′ (4 * n) ≡ 50 → ⊥) → (k : ℕ) → k < n + 1 → kindAt b′ (4 * k) ≡ 50 → ⊥
+  kinds-grown root T f k l e = go (decLt k n)
+    where
+      go : Dec (k < n) → ⊥
+      go (yes d) = T .kinds k d (rw (G .head k d) at e)
+      go (no d) = let z : k ≡ n = omega arith in f (rw z at e)
+
+  tree-grown : (root : ℕ) → Tree t b n root → (127 < kindAt b′ (4 * n) → Fresh t b′ n root) → (kindAt b′ (4 * n) ≡ 50 → ⊥) → Tree t b′ (n + 1) root
+  tree-grown root T F f = record {
     none = λ z k l m e. none z k l m e (decLt k n);
     first = λ w. let q = T .first w in (omega (arith, q .0), q .1, kind-still (root - 1) (q .0) (q .2));
     reached = λ w k l m e. reached w k l m e (decLt k n);
     links = links-grown root root T F;
     sigils = sigils-grown root root T F;
+    tags = tags-grown root root T F;
+    kinds = kinds-grown root T f;
   }
     where
-      none : root ≡ 0 → (k : ℕ) → k < n + 1 → k < 32768 → kindAt b′ (4 * k) ≡ 50 → Dec (k < n) → ⊥
+      none : root ≡ 0 → (k : ℕ) → k < n + 1 → k < 32768 → 127 < kindAt b′ (4 * k) → Dec (k < n) → ⊥
       none z k l m e (yes d) = T .none z k d m (kind-same k d e)
       none z k l m e (no d) = let y : k ≡ n = omega arith in let f = F (rw y at e) .some-root (omega arith) in omega arith
 
-      reached : 0 < root → (k : ℕ) → k < n + 1 → k < 32768 → kindAt b′ (4 * k) ≡ 50 → Dec (k < n) → Reach b′ k (root - 1) (turnsAt t b′ k)
+      reached : 0 < root → (k : ℕ) → k < n + 1 → k < 32768 → 127 < kindAt b′ (4 * k) → Dec (k < n) → Reach b′ k (root - 1) (turnsAt t b′ k)
       reached w k l m e (yes d) = rw (turns-same k d) (reach-grown G d (T .reached w k d m (kind-same k d e)))
       reached w k l m e (no d) = let y : k ≡ n = omega arith in rw y (F (rw y at e) .is-reached (omega arith))
 
   -- the first name
-  tree-planted : Tree t b n 0 → n < 32768 → kindAt b′ (4 * n) ≡ 50 → Fresh t b′ n (n + 1) → Tree t b′ (n + 1) (n + 1)
+  tree-planted : Tree t b n 0 → n < 32768 → 127 < kindAt b′ (4 * n) → Fresh t b′ n (n + 1) → Tree t b′ (n + 1) (n + 1)
   tree-planted T m e F = record {
     none = λ z k l i c. omega arith;
     first = λ w. let z : n + 1 - 1 ≡ n = omega arith in rw z (omega arith, m, e);
     reached = λ w k l i c. reached k l i c (decLt k n);
     links = links-grown 0 (n + 1) T (λ c. F);
     sigils = sigils-grown 0 (n + 1) T (λ c. F);
+    tags = tags-grown 0 (n + 1) T (λ c. F);
+    kinds = kinds-grown 0 T (λ c. omega arith);
   }
     where
-      reached : (k : ℕ) → k < n + 1 → k < 32768 → kindAt b′ (4 * k) ≡ 50 → Dec (k < n) → Reach b′ k (n + 1 - 1) (turnsAt t b′ k)
+      reached : (k : ℕ) → k < n + 1 → k < 32768 → 127 < kindAt b′ (4 * k) → Dec (k < n) → Reach b′ k (n + 1 - 1) (turnsAt t b′ k)
       reached k l i c (yes d) = absurd (T .none refl k d i (kind-same k d c))
       reached k l i c (no d) = let y : k ≡ n = omega arith in rw y (F .is-reached m)
 
@@ -412,7 +442,7 @@ link-new false true w n l f g = f (link-high w n)
 abbrev pub linkBook : List ℕ → ℕ → ℕ → ℕ → List ℕ
 linkBook b n e u = set b (4 * e + 3) (withLink (side u) (getD b (4 * e + 3) 0) n)
 
-module _ (b : List ℕ) (n e u h x y z : ℕ) (room : n < length b / 4) (small : n < 32768) (before : e < n) (named : kind h ≡ 50)
+module _ (b : List ℕ) (n e u h x y z : ℕ) (room : n < length b / 4) (small : n < 32768) (before : e < n) (named : 127 < kind h)
     (free : both (ltb e (linkFrom b (side u) e)) (ltb (linkFrom b (side u) e) n) ≡ false) where
   abbrev grownBook : List ℕ
   grownBook = four (linkBook b n e u) n h x y z
@@ -426,7 +456,7 @@ module _ (b : List ℕ) (n e u h x y z : ℕ) (room : n < length b / 4) (small :
   word-linked : getD grownBook (4 * e + 3) 0 ≡ withLink (side u) (getD b (4 * e + 3) 0) n
   word-linked = four-before (linkBook b n e u) n h x y z (4 * e + 3) (omega arith) ∙ getD-set-same b (4 * e + 3) (withLink (side u) (getD b (4 * e + 3) 0) n) 0 (omega arith)
 
-  new-kind : kindAt grownBook (4 * n) ≡ 50
+  new-kind : 127 < kindAt grownBook (4 * n)
   new-kind = rw (four-head (linkBook b n e u) n h x y z linked-room) named
 
   linked-grown : Grown b grownBook n
@@ -483,11 +513,12 @@ code-whole g = go (eqb g 36) (eqb g 37)
     go false true = refl
     go false false = refl
 
-fresh-new : (t b : List ℕ) (n h x m g root : ℕ) → n < length b / 4 → (n < 32768 → 0 < root)
+fresh-new : (t b : List ℕ) (n h x m g root : ℕ) → n < length b / 4 → kind h ≡ nameTag t x m g → (n < 32768 → 0 < root)
     → (n < 32768 → Reach (four b n h x m (sigilCode g)) n (root - 1) (hashOf t x (sigilCode g) m)) → Fresh t (four b n h x m (sigilCode g)) n root
-fresh-new t b n h x m g root room w r = record {
+fresh-new t b n h x m g root room v w r = record {
   no-links = λ s. rw (four-last b n h x m (sigilCode g) room) (none s (sigilCode g) (code-small g));
   sigil = rw (four-last b n h x m (sigilCode g) room, code-whole g) (code-of g);
+  tag = rw (four-head b n h x m (sigilCode g) room, four-start b n h x m (sigilCode g) room, four-size b n h x m (sigilCode g) room, four-last b n h x m (sigilCode g) room, code-whole g) v;
   some-root = w;
   is-reached = λ l. rw (four-start b n h x m (sigilCode g) room, four-size b n h x m (sigilCode g) room, four-last b n h x m (sigilCode g) room, code-whole g) (r l);
 }
@@ -497,9 +528,9 @@ fresh-new t b n h x m g root room w r = record {
     none false c l = omega arith
 
 -- a datum or a byte
-pub tree-other : (t b : List ℕ) (n root h x y z : ℕ) → n < length b / 4 → (kind h ≡ 50 → ⊥) → Tree t b n root → Tree t (four b n h x y z) (n + 1) root
-tree-other t b n root h x y z room k T =
-    tree-grown t b (four b n h x y z) n (four-grown b n h x y z room) root T (λ e. absurd (k (rw (four-head b n h x y z room) at e)))
+pub tree-other : (t b : List ℕ) (n root h x y z : ℕ) → n < length b / 4 → (127 < kind h → ⊥) → (kind h ≡ 50 → ⊥) → Tree t b n root → Tree t (four b n h x y z) (n + 1) root
+tree-other t b n root h x y z room k j T =
+    tree-grown t b (four b n h x y z) n (four-grown b n h x y z room) root T (λ e. absurd (k (rw (four-head b n h x y z room) at e))) (λ e. j (rw (four-head b n h x y z room) at e))
 
 pub linked-length : (t b : List ℕ) (x n g : ℕ) (s : St) → length (linked b s (descentTo t b s x n g)) ≡ length b
 unfolding linked linkedAt
@@ -513,12 +544,19 @@ linked-length t b x n g s = go (both (ltb 0 (s .root)) (mayLink b s)) (ltb (desc
 -- what is linked: nothing, or an earlier name
 pub data Linking (t b : List ℕ) (x n g : ℕ) (s : St) : Type 0 where
   from-none : linked b s (descentTo t b s x n g) ≡ b → Linking t b x n g s
-  from-name : (e u : ℕ) → linked b s (descentTo t b s x n g) ≡ linkBook b (s .entries) e u → e < s .entries → kindAt b (4 * e) ≡ 50 → Linking t b x n g s
+  from-name : (e u : ℕ) → linked b s (descentTo t b s x n g) ≡ linkBook b (s .entries) e u → e < s .entries → 127 < kindAt b (4 * e) → Linking t b x n g s
 
 -- a new name: where its descent ends there is no child
-module _ (t b : List ℕ) (x n g h : ℕ) (s : St) (T : Tree t b (known b s) (s .root)) (absent : entryOf t b s x n g ≡ known b s) (room : s .entries < length b / 4) (named : kind h ≡ 50) where
+module _ (t b : List ℕ) (x n g h : ℕ) (s : St) (T : Tree t b (known b s) (s .root)) (absent : entryOf t b s x n g ≡ known b s) (room : s .entries < length b / 4) (tagged : kind h ≡ nameTag t x n g) where
   abbrev D : Descent
   D = descentTo t b s x n g
+
+  named : 127 < kind h
+  named = rw tagged (tag-high (hashOf t x (sigilCode g) n))
+
+  -- the new head is no plain kind, whatever the book is that it is put into
+  not-plain : (b′ : List ℕ) → s .entries < length b′ / 4 → kindAt (four b′ (s .entries) h x n (sigilCode g)) (4 * s .entries) ≡ 50 → ⊥
+  not-plain b′ r e = let q : kind h ≡ 50 = rw (four-head b′ (s .entries) h x n (sigilCode g) r) at e in omega (arith, named)
 
   known-is : known b s ≡ s .entries
   known-is = omega arith
@@ -526,11 +564,11 @@ module _ (t b : List ℕ) (x n g h : ℕ) (s : St) (T : Tree t b (known b s) (s 
   T′ : Tree t b (s .entries) (s .root)
   T′ = rw known-is at T
 
-  end-known : 0 < s .root → (D .at < known b s) × (D .at < 32768) × (kindAt b (4 * D .at) ≡ 50)
+  end-known : 0 < s .root → (D .at < known b s) × (D .at < 32768) × (127 < kindAt b (4 * D .at))
   unfolding descentTo
   end-known w = end-name t b x n g s T w
 
-  end-is : 0 < s .root → (D .at < s .entries) × (D .at < 32768) × (kindAt b (4 * D .at) ≡ 50)
+  end-is : 0 < s .root → (D .at < s .entries) × (D .at < 32768) × (127 < kindAt b (4 * D .at))
   end-is w = rw known-is at (end-known w)
 
   end-unnamed : 0 < s .root → namedAt t b (D .at) x n g ≡ false
@@ -582,13 +620,13 @@ module _ (t b : List ℕ) (x n g h : ℕ) (s : St) (T : Tree t b (known b s) (s 
       go w (no l) =
           rw (not-linked (rw (le-ltb (s .entries) 32768 (omega arith)) (both-false (ltb 0 (s .root)))), root-stays (rw (le-ltb (s .entries) 32768 (omega arith)) (both-false (eqb (s .root) 0))))
           (tree-grown t b (four b (s .entries) h x n (sigilCode g)) (s .entries) (four-grown b (s .entries) h x n (sigilCode g) room) (s .root) T′
-          (λ e. fresh-new t b (s .entries) h x n g (s .root) room (λ i. absurd (l i)) (λ i. absurd (l i))))
+          (λ e. fresh-new t b (s .entries) h x n g (s .root) room tagged (λ i. absurd (l i)) (λ i. absurd (l i))) (not-plain b room))
       go (no w) (yes l) =
           let z : s .root ≡ 0 = omega arith in
           rw (not-linked (rw (le-ltb 0 (s .root) (omega arith))), root-new z l)
           (tree-planted t b (four b (s .entries) h x n (sigilCode g)) (s .entries) (four-grown b (s .entries) h x n (sigilCode g) room) (rw z at T′) l
           (rw (four-head b (s .entries) h x n (sigilCode g) room) named)
-          (fresh-new t b (s .entries) h x n g (s .entries + 1) room (λ i. omega arith) (λ i. here (omega arith))))
+          (fresh-new t b (s .entries) h x n g (s .entries + 1) room tagged (λ i. omega arith) (λ i. here (omega arith))))
       go (yes w) (yes l) =
           let q = end-is w in
           let G = linked-grown b (s .entries) (D .at) (D .bits) h x n (sigilCode g) room l (q .0) named (end-free w) in
@@ -596,4 +634,5 @@ module _ (t b : List ℕ) (x n g h : ℕ) (s : St) (T : Tree t b (known b s) (s 
           let m = linked-room b (s .entries) (D .at) (D .bits) h x n (sigilCode g) room l (q .0) named (end-free w) in
           rw (is-linked w l, root-stays (rw (ne-eqb (s .root) 0 (λ e. omega arith))))
           (tree-grown t b (four (linkBook b (s .entries) (D .at) (D .bits)) (s .entries) h x n (sigilCode g)) (s .entries) G (s .root) T′
-          (λ e. fresh-new t (linkBook b (s .entries) (D .at) (D .bits)) (s .entries) h x n g (s .root) m (λ i. w) (λ i. walk-grown G (end-walk w) r)))
+          (λ e. fresh-new t (linkBook b (s .entries) (D .at) (D .bits)) (s .entries) h x n g (s .root) m tagged (λ i. w) (λ i. walk-grown G (end-walk w) r))
+          (not-plain (linkBook b (s .entries) (D .at) (D .bits)) m))

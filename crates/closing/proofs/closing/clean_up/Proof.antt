@@ -9,31 +9,31 @@ use Rattle.closing.proofs.closing.open_whiles.Reads as open-whiles-read
 use Rattle.closing.proofs.closing.present_of.Reads as present-of-reads
 use Rattle.recorder.proofs.codegen.put.Reads as put-reads
 
--- src/closing.rt:378:9
+-- src/closing.rt:379:9
 present-of-requires : tie.Need-present-of-requires
 present-of-requires c κs = search needs
 
--- src/closing.rt:379:9
+-- src/closing.rt:380:9
 close-loops-requires : tie.Need-close-loops-requires
 close-loops-requires c κs = search needs
 
--- src/closing.rt:380:9
+-- src/closing.rt:381:9
 open-whiles-requires : tie.Need-open-whiles-requires
 open-whiles-requires c κs = search needs
 
--- src/closing.rt:381:5
+-- src/closing.rt:382:5
 put-requires : tie.Need-put-requires
 put-requires c κs = search needs
 
--- src/closing.rt:375:1
+-- src/closing.rt:376:1
 same-length : tie.Need-same-length
 same-length c = search needs
 
--- src/closing.rt:375:1
+-- src/closing.rt:376:1
 same-length-2 : tie.Need-same-length-2
 same-length-2 c = search needs
 
--- src/closing.rt:375:1
+-- src/closing.rt:376:1
 returns : tie.Need-returns
 returns c = clean-done _ _ _ _ _ _ _ _ _ _ _ (c .before .before .before .before .before .before .before .before .before .before .before .before .before .before .before .present-of .ensures) (c .before .before .before .before .before .before .before .before .before .before .before .before .before .close-loops .ensures) (c .before .before .before .before .before .before .before .before .open-whiles .ensures) (c .before .before .put .ensures)
 

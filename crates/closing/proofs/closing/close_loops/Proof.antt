@@ -17,35 +17,35 @@ Inv-loop list₀ n top₀ k₀ left₀ list top k left = Rest list top k left (d
 abbrev μ-loop : tie.MeasureT-loop
 μ-loop list₀ n top₀ k₀ left₀ list top k left = left
 
--- src/closing.rt:366:5
+-- src/closing.rt:367:5
 loop-holds : tie.Need-loop-holds Inv-loop μ-loop
 loop-holds c = (rest-start (c .before .args .list .now) (c .before .args .n), refl, refl)
 
--- src/closing.rt:367:9
+-- src/closing.rt:368:9
 loop-step-requires : tie.Need-loop-step-requires Inv-loop μ-loop
 loop-step-requires c κs = search needs
 
--- src/closing.rt:368:9
+-- src/closing.rt:369:9
 add-k : tie.Need-add-k Inv-loop μ-loop
 add-k c = omega arith
 
--- src/closing.rt:369:9
+-- src/closing.rt:370:9
 sub-left : tie.Need-sub-left Inv-loop μ-loop
 sub-left c = omega arith
 
--- src/closing.rt:366:5
+-- src/closing.rt:367:5
 loop-less : tie.Need-loop-less Inv-loop μ-loop
 loop-less c = omega arith
 
--- src/closing.rt:366:5
+-- src/closing.rt:367:5
 loop-again : tie.Need-loop-again Inv-loop μ-loop
 loop-again c = (rest-step _ _ _ _ _ _ _ _ (c .before .before .before .before .loop-test .taken) (c .before .before .before .before .before .loop .inv .0) (c .before .before .loop-step .ensures), omega arith, (c .before .before .loop-step .kept .0) ∙ (c .before .before .before .before .before .loop .inv .2))
 
--- src/closing.rt:360:1
+-- src/closing.rt:361:1
 same-length : tie.Need-same-length Inv-loop μ-loop
 same-length c = (c .before .loop .inv .2)
 
--- src/closing.rt:360:1
+-- src/closing.rt:361:1
 returns : tie.Need-returns Inv-loop μ-loop
 returns c = rest-end _ _ _ _ _ _ (c .loop-test .left) (c .before .loop .inv .0)
 

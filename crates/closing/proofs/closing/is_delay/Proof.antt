@@ -11,54 +11,54 @@ use Rattle.closing.proofs.closing.is_for.Reads as is-for-reads
 use Rattle.closing.proofs.closing.is_next_of.Reads as is-next-of-reads
 use Rattle.closing.proofs.closing.is_start.Reads as is-start-reads
 
--- src/closing.rt:293:9
+-- src/closing.rt:280:9
 is-start-requires : tie.Need-is-start-requires
 is-start-requires c κs = search needs
 
--- src/closing.rt:294:9
+-- src/closing.rt:281:9
 returns : tie.Need-returns
 unfolding delayAt
 returns c = both-no _ _ _ (c .before .is-start .ensures) (not-true _ (c .if1 .taken))
 
--- src/closing.rt:296:22
+-- src/closing.rt:283:22
 add-is-end : tie.Need-add-is-end
 add-is-end c = search needs
 
--- src/closing.rt:296:9
+-- src/closing.rt:283:9
 is-end-requires : tie.Need-is-end-requires
 is-end-requires c κs = search needs
 
--- src/closing.rt:297:9
+-- src/closing.rt:284:9
 returns-2 : tie.Need-returns-2
 unfolding delayAt
 returns-2 c = both-yes _ _ _ _ (c .before .before .before .is-start .ensures) (not-false _ (c .before .before .if1 .left)) (both-no _ _ _ (c .before .is-end .ensures) (not-true _ (c .if2 .taken)))
 
--- src/closing.rt:299:22
+-- src/closing.rt:286:22
 add-is-for : tie.Need-add-is-for
 add-is-for c = search needs
 
--- src/closing.rt:299:9
+-- src/closing.rt:286:9
 is-for-requires : tie.Need-is-for-requires
 is-for-requires c κs = search needs
 
--- src/closing.rt:300:9
+-- src/closing.rt:287:9
 returns-3 : tie.Need-returns-3
 unfolding delayAt
 returns-3 c = both-yes _ _ _ _ (c .before .before .before .before .before .is-start .ensures) (not-false _ (c .before .before .before .before .if1 .left)) (both-yes _ _ _ _ (c .before .before .before .is-end .ensures) (not-false _ (c .before .before .if2 .left)) (both-no _ _ _ (c .before .is-for .ensures) (not-true _ (c .if3 .taken))))
 
--- src/closing.rt:302:22
+-- src/closing.rt:289:22
 add-is-next-of : tie.Need-add-is-next-of
 add-is-next-of c = search needs
 
--- src/closing.rt:302:29
+-- src/closing.rt:289:29
 add-is-next-of-2 : tie.Need-add-is-next-of-2
 add-is-next-of-2 c = search needs
 
--- src/closing.rt:302:5
+-- src/closing.rt:289:5
 is-next-of-requires : tie.Need-is-next-of-requires
 is-next-of-requires c κs = search needs
 
--- src/closing.rt:289:1
+-- src/closing.rt:276:1
 returns-4 : tie.Need-returns-4
 unfolding delayAt
 returns-4 c = both-yes _ _ _ _ (c .before .before .before .before .before .before .is-start .ensures) (not-false _ (c .before .before .before .before .before .if1 .left)) (both-yes _ _ _ _ (c .before .before .before .before .is-end .ensures) (not-false _ (c .before .before .before .if2 .left)) (both-yes _ _ _ _ (c .before .before .is-for .ensures) (not-false _ (c .before .if3 .left)) (c .is-next-of .ensures)))

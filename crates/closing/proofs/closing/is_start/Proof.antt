@@ -7,19 +7,19 @@ use Rattle.closing.proofs.closing.is_start.Lts as lts
 use Rattle.closing.proofs.closing.is_one.Reads as is-one-reads
 use Rattle.closing.proofs.closing.is_zero.Reads as is-zero-reads
 
--- src/closing.rt:251:8
+-- src/closing.rt:238:8
 is-zero-requires : tie.Need-is-zero-requires
 is-zero-requires c κs = search needs
 
--- src/closing.rt:252:9
+-- src/closing.rt:239:9
 returns : tie.Need-returns
 returns c = either-yes _ _ _ (c .before .is-zero .ensures) (c .if1 .taken)
 
--- src/closing.rt:254:5
+-- src/closing.rt:241:5
 is-one-requires : tie.Need-is-one-requires
 is-one-requires c κs = search needs
 
--- src/closing.rt:248:1
+-- src/closing.rt:235:1
 returns-2 : tie.Need-returns-2
 returns-2 c = either-no _ _ _ _ (c .before .before .is-zero .ensures) (c .before .if1 .left) (c .is-one .ensures)
 

@@ -7,39 +7,39 @@ use Rattle.closing.proofs.closing.make_delay.Lts as lts
 use Rattle.closing.proofs.closing.rewrite_at.Reads as rewrite-at-reads
 use Rattle.closing.proofs.closing.whole_at.Reads as whole-at-reads
 
--- src/closing.rt:329:5
+-- src/closing.rt:316:5
 rewrite-at-requires : tie.Need-rewrite-at-requires
 rewrite-at-requires c κs = search needs
 
--- src/closing.rt:330:20
+-- src/closing.rt:317:20
 add-whole-at : tie.Need-add-whole-at
 add-whole-at c = search needs
 
--- src/closing.rt:330:5
+-- src/closing.rt:317:5
 whole-at-requires : tie.Need-whole-at-requires
 whole-at-requires c κs = search needs
 
--- src/closing.rt:331:22
+-- src/closing.rt:318:22
 add-rewrite-at : tie.Need-add-rewrite-at
 add-rewrite-at c = search needs
 
--- src/closing.rt:331:5
+-- src/closing.rt:318:5
 rewrite-at-requires-2 : tie.Need-rewrite-at-requires-2
 rewrite-at-requires-2 c κs = search needs
 
--- src/closing.rt:332:22
+-- src/closing.rt:319:22
 add-rewrite-at-2 : tie.Need-add-rewrite-at-2
 add-rewrite-at-2 c = search needs
 
--- src/closing.rt:332:5
+-- src/closing.rt:319:5
 rewrite-at-requires-3 : tie.Need-rewrite-at-requires-3
 rewrite-at-requires-3 c κs = search needs
 
--- src/closing.rt:325:1
+-- src/closing.rt:312:1
 same-length : tie.Need-same-length
 same-length c = search needs
 
--- src/closing.rt:325:1
+-- src/closing.rt:312:1
 returns : tie.Need-returns
 unfolding delayedAt
 returns c = rw ((c .before .before .rewrite-at3 .ensures), (c .before .before .before .before .before .before .rewrite-at2 .ensures), (c .before .before .before .before .before .before .before .before .before .before .whole-at .ensures), (c .before .before .before .before .before .before .before .before .before .before .before .before .before .before .rewrite-at .ensures))

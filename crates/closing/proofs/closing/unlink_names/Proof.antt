@@ -18,35 +18,35 @@ Inv-loop book₀ end k₀ book k = (unlinkFrom book k (end - k) ≡ unlinkFrom b
 abbrev μ-loop : tie.MeasureT-loop
 μ-loop book₀ end k₀ book k = end - k
 
--- src/closing.rt:408:9
+-- src/closing.rt:416:9
 least-requires : tie.Need-least-requires Inv-loop μ-loop
 least-requires c κs = search needs
 
--- src/closing.rt:410:5
+-- src/closing.rt:418:5
 loop-holds : tie.Need-loop-holds Inv-loop μ-loop
 loop-holds c = (refl, refl)
 
--- src/closing.rt:411:9
+-- src/closing.rt:419:9
 unlink-at-requires : tie.Need-unlink-at-requires Inv-loop μ-loop
 unlink-at-requires c κs = search needs
 
--- src/closing.rt:412:9
+-- src/closing.rt:420:9
 add-k : tie.Need-add-k Inv-loop μ-loop
 add-k c = omega arith
 
--- src/closing.rt:410:5
+-- src/closing.rt:418:5
 loop-less : tie.Need-loop-less Inv-loop μ-loop
 loop-less c = omega arith
 
--- src/closing.rt:410:5
+-- src/closing.rt:418:5
 loop-again : tie.Need-loop-again Inv-loop μ-loop
 loop-again c = (unlink-step _ _ _ _ _ (c .before .before .before .before .loop-test .taken) (c .before .before .before .before .before .loop .inv .0) (c .before .before .unlink-at .ensures), (c .before .before .unlink-at .kept .0) ∙ (c .before .before .before .before .before .loop .inv .1))
 
--- src/closing.rt:405:1
+-- src/closing.rt:413:1
 same-length : tie.Need-same-length Inv-loop μ-loop
 same-length c = (c .before .loop .inv .1)
 
--- src/closing.rt:405:1
+-- src/closing.rt:413:1
 returns : tie.Need-returns Inv-loop μ-loop
 returns c = unlink-end _ _ _ _ _ (c .before .before .least .ensures) (c .loop-test .left) (c .before .loop .inv .0)
 

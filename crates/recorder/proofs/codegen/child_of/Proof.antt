@@ -8,35 +8,35 @@ use Rattle.recorder.proofs.codegen.is_high.Reads as is-high-reads
 use Rattle.recorder.proofs.codegen.link_of.Reads as link-of-reads
 use Rattle.recorder.proofs.word.word_at.Reads as word-at-reads
 
--- src/codegen.rt:506:17
+-- src/codegen.rt:549:17
 is-high-requires : tie.Need-is-high-requires
 is-high-requires c κs = search needs
 
--- src/codegen.rt:506:46
+-- src/codegen.rt:549:46
 mul-word-at : tie.Need-mul-word-at
 mul-word-at c = search needs
 
--- src/codegen.rt:506:46
+-- src/codegen.rt:549:46
 add-word-at : tie.Need-add-word-at
 add-word-at c = search needs
 
--- src/codegen.rt:506:32
+-- src/codegen.rt:549:32
 word-at-requires : tie.Need-word-at-requires
 word-at-requires c κs = search needs
 
--- src/codegen.rt:506:9
+-- src/codegen.rt:549:9
 link-of-requires : tie.Need-link-of-requires
 link-of-requires c κs = search needs
 
--- src/codegen.rt:506:9
+-- src/codegen.rt:549:9
 cast-result : tie.Need-cast-result
 cast-result c = search needs
 
--- src/codegen.rt:502:1
+-- src/codegen.rt:545:1
 returns : tie.Need-returns
 returns c = rw (lt-ltb _ _ (c .before .before .before .if1 .taken), (c .link-of .ensures), (c .before .word-at .ensures), (c .before .before .is-high .ensures))
 
--- src/codegen.rt:502:1
+-- src/codegen.rt:545:1
 returns-2 : tie.Need-returns-2
 returns-2 c = simp (le-ltb _ _ (c .if1 .left))
 

@@ -8,27 +8,27 @@ use Rattle.recorder.proofs.codegen.find.Reads as find-reads
 use Rattle.recorder.proofs.codegen.is_reached.Reads as is-reached-reads
 use Rattle.recorder.proofs.codegen.least.Reads as least-reads
 
--- src/codegen.rt:632:9
+-- src/codegen.rt:672:9
 least-requires : tie.Need-least-requires
 least-requires c κs = search needs
 
--- src/codegen.rt:633:8
+-- src/codegen.rt:673:8
 is-reached-requires : tie.Need-is-reached-requires
 is-reached-requires c κs = search needs
 
--- src/codegen.rt:634:9
+-- src/codegen.rt:674:9
 returns : tie.Need-returns
 returns c = seek-reached (c .before .before .before .before .before .args .text .now) (c .before .before .before .before .before .args .book .now) (c .before .before .before .before .before .args .st) (c .before .before .before .before .before .args .start) (c .before .before .before .before .before .args .len) (c .before .before .before .before .before .args .sigil) _ (c .before .before .before .before .before .args .at) (c .before .before .before .before .before .args .named) _ (c .before .before .least .ensures) (c .before .is-reached .ensures) (c .if1 .taken)
 
--- src/codegen.rt:642:9
+-- src/codegen.rt:682:9
 least-requires-2 : tie.Need-least-requires-2
 least-requires-2 c κs = search needs
 
--- src/codegen.rt:636:5
+-- src/codegen.rt:676:5
 find-requires : tie.Need-find-requires
 find-requires c κs = search needs
 
--- src/codegen.rt:620:1
+-- src/codegen.rt:660:1
 returns-2 : tie.Need-returns-2
 returns-2 c = seek-past (c .before .before .before .before .before .before .before .args .text .now) (c .before .before .before .before .before .before .before .args .book .now) (c .before .before .before .before .before .before .before .args .st) (c .before .before .before .before .before .before .before .args .start) (c .before .before .before .before .before .before .before .args .len) (c .before .before .before .before .before .before .before .args .sigil) _ (c .before .before .before .before .before .before .before .args .at) _ _ (c .before .before .before .before .before .before .before .args .named) _ (c .before .before .before .before .least .ensures) (c .before .before .before .is-reached .ensures) (c .before .before .if1 .left) (c .before .least2 .ensures) (c .find .ensures)
 

@@ -5,19 +5,19 @@ use Rattle.recorder.proofs.codegen.first_of.Tie as tie
 use Rattle.recorder.proofs.codegen.first_of.Reads as reads
 use Rattle.recorder.proofs.codegen.first_of.Lts as lts
 
--- src/codegen.rt:679:9
+-- src/codegen.rt:758:9
 cast-result : tie.Need-cast-result
 cast-result c = search needs
 
--- src/codegen.rt:679:9
+-- src/codegen.rt:758:9
 add-result : tie.Need-add-result
 add-result c = search needs
 
--- src/codegen.rt:675:1
+-- src/codegen.rt:754:1
 returns : tie.Need-returns
 returns c = first-new _ _ (c .if1 .taken)
 
--- src/codegen.rt:675:1
+-- src/codegen.rt:754:1
 returns-2 : tie.Need-returns-2
 returns-2 c = first-old _ _ (c .if1 .left)
 

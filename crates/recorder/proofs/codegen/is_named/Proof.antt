@@ -8,25 +8,25 @@ use Rattle.recorder.proofs.codegen.same_name.Reads as same-name-reads
 use Rattle.recorder.proofs.codegen.sigil_code.Reads as sigil-code-reads
 use Rattle.recorder.proofs.word.kind_of.Reads as kind-of-reads
 
--- src/codegen.rt:418:8
+-- src/codegen.rt:477:8
 kind-of-requires : tie.Need-kind-of-requires
 kind-of-requires c κs = search needs
 
--- src/codegen.rt:419:9
+-- src/codegen.rt:478:9
 returns : tie.Need-returns
-returns c = name-other _ _ _ _ _ _ _ (c .before .before .before .args .sigil) _ (c .before .kind-of .ensures) (c .if1 .taken)
+returns c = name-other _ _ _ _ _ _ _ _ (c .before .before .before .args .sigil) _ (c .before .kind-of .ensures) (c .if1 .taken)
 
--- src/codegen.rt:421:48
+-- src/codegen.rt:480:48
 sigil-code-requires : tie.Need-sigil-code-requires
 sigil-code-requires c κs = search needs
 
--- src/codegen.rt:421:5
+-- src/codegen.rt:480:5
 same-name-requires : tie.Need-same-name-requires
 same-name-requires c κs = search needs
 
--- src/codegen.rt:415:1
+-- src/codegen.rt:464:1
 returns-2 : tie.Need-returns-2
-returns-2 c = name-same _ _ _ _ _ _ _ (c .before .before .before .before .before .args .sigil) _ _ _ (c .before .before .before .kind-of .ensures) (c .before .before .if1 .left) (c .before .sigil-code .ensures) (c .same-name .ensures)
+returns-2 c = name-same _ _ _ _ _ _ _ _ (c .before .before .before .before .before .args .sigil) _ _ _ (c .before .before .before .kind-of .ensures) (c .before .before .if1 .left) (c .before .sigil-code .ensures) (c .same-name .ensures)
 
 pub is-named-spec : {M : Type 1} → statement M
 is-named-spec =

@@ -10,35 +10,35 @@ use Rattle.recorder.proofs.codegen.put_note.Lts as lts
 use Rattle.recorder.proofs.codegen.put_four.Reads as put-four-reads
 use Rattle.recorder.proofs.codegen.with_notes.Reads as with-notes-reads
 
--- src/codegen.rt:304:8
+-- src/codegen.rt:319:8
 put-four-requires : tie.Need-put-four-requires
 put-four-requires c κs = search needs
 
--- src/codegen.rt:305:24
+-- src/codegen.rt:320:24
 add-with-notes : tie.Need-add-with-notes
 add-with-notes c = omega (arith, room-in (c .before .before .before .before .before .before .args .st .notes) (length (c .before .before .before .before .before .before .args .notes .now) / 4) _ (c .before .before .before .put-four .ensures .1) (c .if1 .taken))
 
--- src/codegen.rt:305:9
+-- src/codegen.rt:320:9
 with-notes-requires : tie.Need-with-notes-requires
 with-notes-requires c κs = search needs
 
--- src/codegen.rt:307:9
+-- src/codegen.rt:322:9
 with-notes-requires-2 : tie.Need-with-notes-requires-2
 with-notes-requires-2 c κs = search needs
 
--- src/codegen.rt:299:1
+-- src/codegen.rt:314:1
 same-length : tie.Need-same-length
 same-length c = search needs
 
--- src/codegen.rt:299:1
+-- src/codegen.rt:314:1
 returns : tie.Need-returns
 returns c = note-in _ _ _ _ _ _ _ _ (c .before .before .before .before .put-four .ensures) (c .before .if1 .taken) (c .with-notes .ensures)
 
--- src/codegen.rt:299:1
+-- src/codegen.rt:314:1
 same-length-2 : tie.Need-same-length-2
 same-length-2 c = search needs
 
--- src/codegen.rt:299:1
+-- src/codegen.rt:314:1
 returns-2 : tie.Need-returns-2
 returns-2 c = note-out _ _ _ _ _ _ _ _ (c .before .before .before .before .put-four .ensures) (c .before .if1 .left) (c .with-notes2 .ensures)
 
