@@ -312,28 +312,28 @@ module _ (t b b′ : List ℕ) (n : ℕ) (G : Grown b b′ n) where
       go (yes d) = old d (G .new k d h)
       go (no d) = let z : k ≡ n = omega arith in absurd (let f = F (rw z at e) .no-links h in let q = rw z at p in omega arith)
 
+  -- what holds of the entries before, and of the new one, holds of all
+  all-grown : (P : ℕ → Type 0) → ((k : ℕ) → k < n → P k) → P n → (k : ℕ) → k < n + 1 → P k
+  all-grown P old new k l = go (decLt k n)
+    where
+      go : Dec (k < n) → P k
+      go (yes d) = old k d
+      go (no d) = let z : k ≡ n = omega arith in rw z new
+
   sigils-grown : (root root′ : ℕ) → Tree t b n root → (127 < kindAt b′ (4 * n) → Fresh t b′ n root′) → (k : ℕ) → k < n + 1 → 127 < kindAt b′ (4 * k)
       → sigilCode (sigilOf (getD b′ (4 * k + 3) 0 % 4)) ≡ getD b′ (4 * k + 3) 0 % 4
-  sigils-grown root root′ T F k l e = go (decLt k n)
-    where
-      go : Dec (k < n) → sigilCode (sigilOf (getD b′ (4 * k + 3) 0 % 4)) ≡ getD b′ (4 * k + 3) 0 % 4
-      go (yes d) = rw (G .code k d) (T .sigils k d (kind-same k d e))
-      go (no d) = let z : k ≡ n = omega arith in rw z (F (rw z at e) .sigil)
+  sigils-grown root root′ T F =
+      all-grown (λ k. 127 < kindAt b′ (4 * k) → sigilCode (sigilOf (getD b′ (4 * k + 3) 0 % 4)) ≡ getD b′ (4 * k + 3) 0 % 4)
+      (λ k d e. rw (G .code k d) (T .sigils k d (kind-same k d e))) (λ e. F e .sigil)
 
   tags-grown : (root root′ : ℕ) → Tree t b n root → (127 < kindAt b′ (4 * n) → Fresh t b′ n root′) → (k : ℕ) → k < n + 1 → 127 < kindAt b′ (4 * k)
       → kindAt b′ (4 * k) ≡ tagOf (turnsAt t b′ k)
-  tags-grown root root′ T F k l e = go (decLt k n)
-    where
-      go : Dec (k < n) → kindAt b′ (4 * k) ≡ tagOf (turnsAt t b′ k)
-      go (yes d) = ap kind (G .head k d) ∙ T .tags k d (kind-same k d e) ∙ ap tagOf (sym (turns-same k d))
-      go (no d) = let z : k ≡ n = omega arith in rw z (F (rw z at e) .tag)
+  tags-grown root root′ T F =
+      all-grown (λ k. 127 < kindAt b′ (4 * k) → kindAt b′ (4 * k) ≡ tagOf (turnsAt t b′ k))
+      (λ k d e. ap kind (G .head k d) ∙ T .tags k d (kind-same k d e) ∙ ap tagOf (sym (turns-same k d))) (λ e. F e .tag)
 
   kinds-grown : (root : ℕ) → Tree t b n root → (kindAt b′ (4 * n) ≡ 50 → ⊥) → (k : ℕ) → k < n + 1 → kindAt b′ (4 * k) ≡ 50 → ⊥
-  kinds-grown root T f k l e = go (decLt k n)
-    where
-      go : Dec (k < n) → ⊥
-      go (yes d) = T .kinds k d (rw (G .head k d) at e)
-      go (no d) = let z : k ≡ n = omega arith in f (rw z at e)
+  kinds-grown root T f = all-grown (λ k. kindAt b′ (4 * k) ≡ 50 → ⊥) (λ k d e. T .kinds k d (rw (G .head k d) at e)) f
 
   tree-grown : (root : ℕ) → Tree t b n root → (127 < kindAt b′ (4 * n) → Fresh t b′ n root) → (kindAt b′ (4 * n) ≡ 50 → ⊥) → Tree t b′ (n + 1) root
   tree-grown root T F f = record {
