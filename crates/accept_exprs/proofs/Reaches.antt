@@ -4,19 +4,20 @@ use mathlib.Core.Bool.{Bool, true, false}
 use mathlib.Core.List.{List}
 use Prim.Native.Nat.{ℕ, zero, suc, _+_, _-_, _≤_, _<_}
 use native.Mathlib.Omega.{arith}
-use Rattle.recorder.specs.Word.{choose, payloadAt}
+use Rattle.recorder.specs.declared.word.Range.{Range}
+use Rattle.recorder.specs.Word.{choose, payloadAt, rangeAt}
 use Rattle.sheet.specs.declared.form.Item.the-variants.{Nothing, Node}
 use Rattle.sheet.specs.declared.form.Sort.{Sort}
 use Rattle.sheet.specs.declared.form.Sort.the-variants.{Expr, Place, InputPlace, Stmt}
-use Rattle.sheet.specs.declared.form.Offence.the-variants.{TooDeep, Fseek}
+use Rattle.sheet.specs.declared.form.Offence.the-variants.{BadRange, TooDeep, Fseek}
 use Rattle.sheet.specs.declared.form.Walk.{Walk}
 use Rattle.sheet.specs.declared.form.Walk.the-variants.{Behind, Stops}
 use Rattle.sheet.specs.declared.form.Line.{Line}
 use Rattle.sheet.specs.Table.{exprRangeItem, ownRange, fieldsOf, isFseek}
-use Rattle.sheet.specs.Form.{then, headForm, takeWord, labelForm, itemForm, pairForm, repeatForm, listForm, fieldsForm, bodyForm, nodeForm, lineHead, lineForm, endForm, linesForm, sheetForm}
+use Rattle.sheet.specs.Form.{then, headForm, takeWord, rangeForm, isNameRange, nameForm, labelForm, itemForm, pairForm, repeatForm, listForm, fieldsForm, bodyForm, nodeForm, lineHead, lineForm, endForm, linesForm, sheetForm}
 use Rattle.accept_exprs.specs.Reach.{placeOf, Stopped, Decides, Reaches}
 use Rattle.sheet.proofs.Walks.{then-stop}
-use Rattle.walk.proofs.Steps.{Ends}
+use Rattle.walk.proofs.Steps.{Ends, range-ends}
 use Rattle.walk.proofs.Cycle.{later, repeat-stop, node-stop, node-deep, node-fseek, node-body}
 use Rattle.walk.proofs.Lines.{node-list, line-label, line-go, lines-stop, lines-end, sheet-go}
 use Rattle.walk.proofs.LinesFit.{word-reads, end-here}
@@ -69,6 +70,24 @@ reach-no at b f g p r e h = rw e h
 
 pub reach-later : (s : List ℕ) (p q : ℕ) (x : Walk) → Ends s p x → Reaches p q x → (q ≡ 0 → ⊥) → p ≤ q
 reach-later s p q x h a b = later s p q x x h refl (a .0 b)
+
+-- a range that is no range, one that holds a name, one that holds none
+module _ (s t : List ℕ) (line : Line) (at p : ℕ) (a : Reaches at p (rangeForm s line at)) where
+  pub no-range : p ≡ 0 → Reaches at 0 (nameForm s t line at)
+  unfolding nameForm
+  no-range e = reach-stop at p _ _ a e
+
+  pub named : (r : Range) (b : Bool) → (p ≡ 0 → ⊥) → r ≡ rangeAt s at → b ≡ isNameRange s t line r → b ≡ true → Reaches at p (nameForm s t line at)
+  unfolding nameForm
+  named r b n e f g =
+      let i : isNameRange s t line (rangeAt s at) ≡ true = ap (λ (z : Range). isNameRange s t line z) (sym e) ∙ sym f ∙ g in
+      reach-again at p p _ _ a n (rw i (reach-end at p (Behind p) refl (reach-later s at p _ (range-ends s line at) a n)))
+
+  pub unnamed : (r : Range) (b : Bool) → (p ≡ 0 → ⊥) → r ≡ rangeAt s at → b ≡ isNameRange s t line r → b ≡ false → Reaches at 0 (nameForm s t line at)
+  unfolding nameForm
+  unnamed r b n e f g =
+      let i : isNameRange s t line (rangeAt s at) ≡ false = ap (λ (z : Range). isNameRange s t line z) (sym e) ∙ sym f ∙ g in
+      reach-again at p 0 _ _ a n (rw i (none at _ (λ h. (BadRange at, refl))))
 
 module _ (s t : List ℕ) (line : Line) where
   -- a node's own range holds no node

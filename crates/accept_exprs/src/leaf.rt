@@ -42,13 +42,26 @@ pub fn text_ends(sheet: &[u32], base: usize, len: usize, at: usize) -> usize
 pub fn name_ends(sheet: &[u32], text: &[u16], base: usize, len: usize, at: usize) -> usize
     ensures { λ r. ⌜ Reaches at r (nameForm (now (sheet .entry)) (now (text .entry)) (lineFrom base len) at) ⌝ }
 {
-    ends(sheet::leaf::name_form(sheet, text, Line { base, len }, at))
+    let p = range_ends(sheet, base, len, at);
+    if p == 0 {
+        return 0;
+    }
+    let r = recorder::word::range_at(sheet, at);
+    if sheet::leaf::is_name_range(text, Line { base, len }, r) {
+        p
+    } else {
+        0
+    }
 }
 
 pub fn optional_name_ends(sheet: &[u32], text: &[u16], base: usize, len: usize, at: usize) -> usize
     ensures { λ r. ⌜ Reaches at r (choose (isAbsent (now (sheet .entry)) at) (absentForm (now (sheet .entry))) (nameForm (now (sheet .entry)) (now (text .entry)) (lineFrom base len)) at) ⌝ }
 {
-    ends(sheet::leaf::optional_name_form(sheet, text, Line { base, len }, at))
+    if sheet::leaf::is_absent(sheet, at) {
+        word_ends(sheet, 2, 1, at)
+    } else {
+        name_ends(sheet, text, base, len, at)
+    }
 }
 
 pub fn datum_ends(sheet: &[u32], base: usize, len: usize, at: usize) -> usize

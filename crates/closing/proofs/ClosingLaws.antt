@@ -10,7 +10,6 @@ use borrow.Rule.Slice.PartMut.{midOf, putMid}
 use native.Mathlib.Numerals.{sub-one}
 use native.Mathlib.Nat.{pow-le-pow-right, one-le-pow, pow-suc, div-mul-le-self}
 use native.Mathlib.Omega.{arith}
-use Rattle.recorder.specs.declared.codegen.St.{St}
 use Rattle.recorder.specs.Word.{pick, both, either, kindAt, wordOf}
 use Rattle.recorder.specs.Ideal.{Rec}
 use Rattle.recorder.specs.Closing.{isWhile, isWend, isOne, isEnd, isNextOf, upTo, roundUp}
@@ -82,19 +81,19 @@ while-close l l′ top k c b f e g h i j o p =
     (p ∙ rw (w, v, u), o ∙ rw (w, v, u))
 
 -- the WHILEs that are open
-pub open-step : (l l′ n n′ : List ℕ) (s s′ : St) (t t′ left : ℕ) (P : Passed) → 0 < left → openFrom (passed l n s) t left ≡ P → (t ≡ 0 → ⊥) → t′ ≡ recOf l (t - 1) .b
+pub open-step : (l l′ n n′ : List ℕ) (s s′ : List ℕ) (t t′ left : ℕ) (P : Passed) → 0 < left → openFrom (passed l n s) t left ≡ P → (t ≡ 0 → ⊥) → t′ ≡ recOf l (t - 1) .b
     → (n′ ≡ noteList n s (wordOf 13 (getD l (5 * (t - 1)) 0)) (getD l (5 * (t - 1) + 1) 0) 1) × (s′ ≡ noteSt n s) → l′ ≡ atRec (setB 4294967295) l (t - 1)
     → openFrom (passed l′ n′ s′) t′ (left - 1) ≡ P
 unfolding openFrom
 open-step l l′ n n′ s s′ t t′ zero P h e z b g m = absurd (omega arith)
 open-step l l′ n n′ s s′ t t′ (suc left) P h e z b g m = rw (sub-one, g .0, g .1, m, b) (rw (ne-eqb t 0 z) at e)
 
-pub open-stop : (l n : List ℕ) (s : St) (t left : ℕ) (P : Passed) → 0 < left → openFrom (passed l n s) t left ≡ P → t ≡ 0 → passed l n s ≡ P
+pub open-stop : (l n : List ℕ) (s : List ℕ) (t left : ℕ) (P : Passed) → 0 < left → openFrom (passed l n s) t left ≡ P → t ≡ 0 → passed l n s ≡ P
 unfolding openFrom
 open-stop l n s t zero P h e z = absurd (omega arith)
 open-stop l n s t (suc left) P h e z = rw (eq-eqb t 0 z) at e
 
-pub open-end : (l n : List ℕ) (s : St) (t left : ℕ) (P : Passed) → left ≤ 0 → openFrom (passed l n s) t left ≡ P → passed l n s ≡ P
+pub open-end : (l n : List ℕ) (s : List ℕ) (t left : ℕ) (P : Passed) → left ≤ 0 → openFrom (passed l n s) t left ≡ P → passed l n s ≡ P
 unfolding openFrom
 open-end l n s t zero P h e = e
 open-end l n s t (suc left) P h e = absurd (omega arith)
@@ -216,7 +215,7 @@ unlink-step b b′ L k end h e f =
     let q : end - k ≡ suc (end - (k + 1)) = omega arith in
     rw f (rw q at e)
 
-pub unlink-end : (b₀ b : List ℕ) (st : St) (k end : ℕ) → end ≡ known b₀ st → end ≤ k → unlinkFrom b k (end - k) ≡ unlinkFrom b₀ 0 (end - 0) → b ≡ unlinked b₀ st
+pub unlink-end : (b₀ b : List ℕ) (st : List ℕ) (k end : ℕ) → end ≡ known b₀ st → end ≤ k → unlinkFrom b k (end - k) ≡ unlinkFrom b₀ 0 (end - 0) → b ≡ unlinked b₀ st
 unfolding unlinkFrom unlinked
 unlink-end b₀ b st k end r h e =
     let q : end - k ≡ 0 = omega arith in

@@ -11,14 +11,14 @@ use lib.Seq.{length-take-le, take-at, drop-at, take-set-le, drop-set-add, getD-d
 use borrow.Author.Tests.{lt-ltb, ltb-true, ltb-false, eqb-true, eqb-false, ne-eqb}
 use native.Mathlib.Numerals.{add-one, sub-one}
 use native.Mathlib.Omega.{arith}
-use Rattle.recorder.specs.declared.codegen.St.{St}
 use Rattle.recorder.specs.Recorder.{unknown}
 use Rattle.recorder.specs.Word.{pick, both, either, wordOf}
 use Rattle.recorder.specs.Ideal.{Rec, noRange}
 use Rattle.recorder.specs.Closing.{isWhile, isWend, isStart, isOne, isEnd, isFor, isNextOf, roundUp}
-use Rattle.recorder.specs.Mem.{putRec, putSt, withNotes, noteList, noteSt, part, recOf, setB, atRec, linkAt, whileList, whileTop, whilesFrom, topFrom, Passed, passed, openStep, openFrom, present, patchWhiles, rewrite, noOpAt, wholeAt, delayAt, steppedAt, delayedAt, steppedDelayedAt, delayList, delaysFrom, convertDelays, cleanUpAll}
+use Rattle.recorder.specs.Mem.{putRec, putSt, noteList, noteSt, part, recOf, setB, atRec, linkAt, whileList, whileTop, whilesFrom, topFrom, Passed, passed, openStep, openFrom, present, patchWhiles, rewrite, noOpAt, wholeAt, delayAt, steppedAt, delayedAt, steppedDelayedAt, delayList, delaysFrom, convertDelays, cleanUpAll}
 use Rattle.recorder.proofs.Words.{head-kind}
 use Rattle.recorder.proofs.Bools.{never, both-left, both-right}
+use Rattle.recorder.proofs.Laws.{note-same}
 use Rattle.closing.proofs.ClosingLaws.{at-beyond, while-other}
 
 -- a record written, word by word
@@ -374,7 +374,7 @@ module _ (G : List ℕ → List ℕ) (K : (l : List ℕ) → Keeps G l) where
   abbrev onList : Passed → Passed
   onList p = passed (G (p .list)) (p .notes) (p .st)
 
-  pub open-commutes : (left : ℕ) (l n : List ℕ) (s : St) {top : ℕ} → OpenWhiles l top → top ≤ length l / 5 → openFrom (passed (G l) n s) top left ≡ onList (openFrom (passed l n s) top left)
+  pub open-commutes : (left : ℕ) (l n : List ℕ) (s : List ℕ) {top : ℕ} → OpenWhiles l top → top ≤ length l / 5 → openFrom (passed (G l) n s) top left ≡ onList (openFrom (passed l n s) top left)
   unfolding openFrom
   open-commutes zero l n s c h = refl
   open-commutes (suc left) l n s none h = refl
@@ -407,21 +407,13 @@ opens-all (suc n) l top k c h =
     let q = opens-all n (whileList l top k) (whileTop l top k) (k + 1) (s .0) (s .1) in
     (q .0, omega (arith, q .1))
 
-note-records : (n : List ℕ) (s : St) → noteSt n s .records ≡ s .records
-unfolding noteSt
-note-records n s = go (ltb (s .notes) (length n / 4))
-  where
-    go : (a : Bool) → pick a (withNotes s (s .notes + 1) (s .nfull)) (withNotes s (s .notes) true) .records ≡ s .records
-    go true = refl
-    go false = refl
-
-open-present : (left : ℕ) (l n : List ℕ) (s : St) (top : ℕ) → present (openFrom (passed l n s) top left .list) (openFrom (passed l n s) top left .st) ≡ present l s
+open-present : (left : ℕ) (l n : List ℕ) (s : List ℕ) (top : ℕ) → present (openFrom (passed l n s) top left .list) (openFrom (passed l n s) top left .st) ≡ present l s
 unfolding openFrom
 open-present zero l n s top = refl
 open-present (suc left) l n s top =
     let p : Passed = openStep (passed l n s) (top - 1) in
     go (eqb top 0) (openFrom p (linkAt l (top - 1)) left)
-    (open-present left (p .list) (p .notes) (p .st) (linkAt l (top - 1)) ∙ rw (note-records n s, b-long l (top - 1) unknown))
+    (open-present left (p .list) (p .notes) (p .st) (linkAt l (top - 1)) ∙ rw (note-same n s 0 (λ e. omega arith) (λ e. omega arith), b-long l (top - 1) unknown))
   where
     go : (a : Bool) (p : Passed) → present (p .list) (p .st) ≡ present l s → present (pick a (passed l n s) p .list) (pick a (passed l n s) p .st) ≡ present l s
     go true p e = refl
@@ -487,7 +479,7 @@ loop-other l top k c e f g =
     rw (no-delay l k (λ z. f (e ∙ z))) (while-other l top k c false e (λ z. g (inr z)) (rw (ne-eqb (recOf l k .call) 2 n)) refl)
 
 -- the pass, the WHILEs left open, End
-pub clean-done : (l l1 l2 l3 n n2 : List ℕ) (s s2 s3 : St) (k top : ℕ) → k ≡ present l s → (l1 ≡ delaysFrom (whilesFrom l 0 0 k) 0 k) × (top ≡ topFrom l 0 0 k) → passed l2 n2 s2 ≡ openFrom (passed l1 n s) top k
+pub clean-done : (l l1 l2 l3 n n2 : List ℕ) (s s2 s3 : List ℕ) (k top : ℕ) → k ≡ present l s → (l1 ≡ delaysFrom (whilesFrom l 0 0 k) 0 k) × (top ≡ topFrom l 0 0 k) → passed l2 n2 s2 ≡ openFrom (passed l1 n s) top k
     → (l3 ≡ putRec l2 s2 2 noRange 17 0 0) × (s3 ≡ putSt l2 s2) → passed l3 n2 s3 ≡ cleanUpAll l n s
 unfolding cleanUpAll patchWhiles convertDelays
 clean-done l l1 l2 l3 n n2 s s2 s3 k top e f g h =

@@ -1,10 +1,12 @@
 // Closing up what is the recorder's: the WHILEs, the delays, End.
 use recorder::codegen::A;
 use recorder::codegen::B;
+use recorder::codegen::ENTRIES;
 use recorder::codegen::ENTRY;
 use recorder::codegen::EXTRA;
 use recorder::codegen::RANGE;
 use recorder::codegen::RECORD;
+use recorder::codegen::RECORDS;
 use recorder::codegen::St;
 use recorder::codegen::least;
 use recorder::codegen::most_records;
@@ -50,7 +52,7 @@ fn b_of(list: &[u32], k: u32) -> u32
 }
 
 // The records that the list has: fewer than 65,536.
-fn present_of(words: usize, records: u32) -> u16
+fn present_of(words: usize, records: usize) -> u16
     ensures { λ r. ⌜ r ≡ min records (mostRecords words) ⌝ }
 {
     let n = most_records(words);
@@ -102,8 +104,8 @@ fn while_step(list: &mut [u32], top: u32, k: u16) -> u32
 }
 
 // The note on a WHILE without WEND: its record's line and range.
-fn open_note(list: &[u32], notes: &mut [u32], st: St, w: u32) -> St
-    ensures { λ r. ⌜ (now (notes .exit) ≡ noteList (now (notes .entry)) st (wordOf 13 (getD (now (list .entry)) (recSize * w) 0)) (getD (now (list .entry)) (recSize * w + rangeWordAt) 0) 1) × (r ≡ noteSt (now (notes .entry)) st) ⌝ }
+fn open_note(list: &[u32], notes: &mut [u32], st: &mut St, w: u32)
+    ensures { λ _. ⌜ (now (notes .exit) ≡ noteList (now (notes .entry)) (now (st .entry)) (wordOf 13 (getD (now (list .entry)) (recSize * w) 0)) (getD (now (list .entry)) (recSize * w + rangeWordAt) 0) 1) × (now (st .exit) ≡ noteSt (now (notes .entry)) (now (st .entry))) ⌝ }
 {
     let from = RECORD * (w as usize);
     let h = word_of(13, word_at(list, from));
@@ -111,23 +113,21 @@ fn open_note(list: &[u32], notes: &mut [u32], st: St, w: u32) -> St
 }
 
 // The end of patch_while_instr of the Rust: a note on each WHILE left open, the last first.
-fn open_whiles(list: &mut [u32], notes: &mut [u32], st: St, top: u32, n: u16) -> St
-    ensures { λ r. ⌜ passed (now (list .exit)) (now (notes .exit)) r ≡ openFrom (passed (now (list .entry)) (now (notes .entry)) st) top n ⌝ }
+fn open_whiles(list: &mut [u32], notes: &mut [u32], st: &mut St, top: u32, n: u16)
+    ensures { λ _. ⌜ passed (now (list .exit)) (now (notes .exit)) (now (st .exit)) ≡ openFrom (passed (now (list .entry)) (now (notes .entry)) (now (st .entry))) top n ⌝ }
 {
-    let mut s = st;
     let mut t = top;
     let mut left = n;
     while 0 < left {
         if t == 0 {
-            return s;
+            return;
         }
         let w = t - 1;
         t = b_of(list, w);
-        s = open_note(list, notes, s, w);
+        open_note(list, notes, st, w);
         set_b_at(list, w, 4294967295);
         left -= 1;
     }
-    s
 }
 
 // A record anew but for its line and its range.
@@ -373,13 +373,13 @@ fn close_loops(list: &mut [u32], n: u16) -> u32
 }
 
 // WHILEs, delays, and End on the last line.
-pub fn clean_up(list: &mut [u32], notes: &mut [u32], st: St) -> St
-    ensures { λ r. ⌜ passed (now (list .exit)) (now (notes .exit)) r ≡ cleanUpAll (now (list .entry)) (now (notes .entry)) st ⌝ }
+pub fn clean_up(list: &mut [u32], notes: &mut [u32], st: &mut St)
+    ensures { λ _. ⌜ passed (now (list .exit)) (now (notes .exit)) (now (st .exit)) ≡ cleanUpAll (now (list .entry)) (now (notes .entry)) (now (st .entry)) ⌝ }
 {
-    let n = present_of(list.len(), st.records);
+    let n = present_of(list.len(), st[RECORDS]);
     let top = close_loops(list, n);
-    let s = open_whiles(list, notes, st, top, n);
-    put(list, s, 2, Range { start: 0, end: 0 }, 17, 0, 0)
+    open_whiles(list, notes, st, top, n);
+    put(list, st, 2, Range { start: 0, end: 0 }, 17, 0, 0)
 }
 
 fn sigil_of(c: u32) -> u32
@@ -410,10 +410,10 @@ fn unlink_at(book: &mut [u32], k: usize)
 }
 
 // The book as document 01 has it: the names have no tags and are in no tree any more.
-pub fn unlink_names(book: &mut [u32], st: St)
-    ensures { λ r. ⌜ now (book .exit) ≡ unlinked (now (book .entry)) st ⌝ }
+pub fn unlink_names(book: &mut [u32], st: &St)
+    ensures { λ r. ⌜ now (book .exit) ≡ unlinked (now (book .entry)) (now (st .entry)) ⌝ }
 {
-    let end = least(st.entries, book.len() / ENTRY);
+    let end = least(st[ENTRIES], book.len() / ENTRY);
     let mut k: usize = 0;
     while k < end {
         unlink_at(book, k);

@@ -1,4 +1,11 @@
 // The compiler of plot forms: a sheet and its text, lent to be read; list, notes, book and work, lent to be written.
+use recorder::codegen::BOOK_FULL;
+use recorder::codegen::CELLS;
+use recorder::codegen::ENTRIES;
+use recorder::codegen::LIST_FULL;
+use recorder::codegen::NOTES;
+use recorder::codegen::NOTES_FULL;
+use recorder::codegen::RECORDS;
 use recorder::codegen::St;
 ghost use mathlib.Core.Path.{_≡_};
 ghost use Prim.Native.Nat.{_*_, _<_};
@@ -48,23 +55,24 @@ fn sized_up(
     notes: &mut [u32],
     book: &mut [u32],
     work: &mut [u32],
-    st: St,
+    st: &St,
 ) -> Answer
-    ensures { λ x. ⌜ outcomeOf x (now (list .exit)) (now (notes .exit)) (now (book .exit)) (now (work .exit)) ≡ memSized (lengths (length (now (list .entry))) (length (now (notes .entry))) (length (now (book .entry))) (length (now (work .entry)))) (mem (now (list .entry)) (now (notes .entry)) (now (book .entry)) st) ⌝ }
+    ensures { λ x. ⌜ outcomeOf x (now (list .exit)) (now (notes .exit)) (now (book .exit)) (now (work .exit)) ≡ memSized (lengths (length (now (list .entry))) (length (now (notes .entry))) (length (now (book .entry))) (length (now (work .entry)))) (mem (now (list .entry)) (now (notes .entry)) (now (book .entry)) (now (st .entry))) ⌝ }
 {
-    if st.nfull {
+    if 0 < st[NOTES_FULL] {
         return refuse(list, notes, book, work, 10, 0);
     }
-    if st.bfull {
+    if 0 < st[BOOK_FULL] {
         return refuse(list, notes, book, work, 11, 0);
     }
     recorder::codegen::clear(work);
+    let end = recorder::codegen::current_addr(st);
     Answer {
         refusal: 0,
         place: 0,
-        records: st.records,
-        notes: st.notes,
-        entries: st.entries,
+        records: end.0,
+        notes: st[NOTES],
+        entries: st[ENTRIES],
     }
 }
 
@@ -79,24 +87,16 @@ fn compile_accepted(
 ) -> Answer
     ensures { λ x. ⌜ (now (list .entry) ≡ replicate (length (now (list .entry))) 0 → now (notes .entry) ≡ replicate (length (now (notes .entry))) 0 → now (book .entry) ≡ replicate (length (now (book .entry))) 0 → now (work .entry) ≡ replicate (length (now (work .entry))) 0 → 3 * payloadAt (now (sheet .entry)) 0 < length (now (work .entry)) → payloadAt (now (sheet .entry)) 0 < 65536 → outcomeOf x (now (list .exit)) (now (notes .exit)) (now (book .exit)) (now (work .exit)) ≡ sized (finished (now (sheet .entry)) (now (text .entry))) (lengths (length (now (list .entry))) (length (now (notes .entry))) (length (now (book .entry))) (length (now (work .entry))))) ⌝ }
 {
-    let p = program::line::compile_prog(
-        sheet,
-        text,
-        list,
-        notes,
-        book,
-        work,
-        recorder::codegen::new(),
-    );
-    let ps = p.st;
-    if ps.lfull {
+    let mut st: St = [0; CELLS];
+    let n = program::line::compile_prog(sheet, text, list, notes, book, work, &mut st);
+    if 0 < st[LIST_FULL] {
         return refuse(list, notes, book, work, 9, 0);
     }
-    if recorder::codegen::most_records(list.len()) <= ps.records {
+    if recorder::codegen::most_records(list.len()) <= st[RECORDS] {
         return refuse(list, notes, book, work, 9, 0);
     }
-    let s = resolution::resolve::close_up(list, notes, book, work, ps, p.marks);
-    sized_up(list, notes, book, work, s)
+    resolution::resolve::close_up(list, notes, book, work, &mut st, n);
+    sized_up(list, notes, book, work, &st)
 }
 
 // A call on whichever words, text and lent memory leaves what document 01's rules say: the finished list, notes and book with

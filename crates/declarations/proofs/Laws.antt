@@ -5,9 +5,8 @@ use Prim.Native.Nat.{ℕ, zero, suc, _-_, _≤_, _<_}
 use borrow.Author.Tests.{lt-ltb, le-ltb}
 use native.Mathlib.Omega.{arith}
 use Rattle.recorder.specs.declared.word.Range.{Range}
-use Rattle.recorder.specs.declared.codegen.St.{St}
 use Rattle.recorder.specs.Word.{payloadAt, rangeAt, next}
-use Rattle.recorder.specs.Mem.{Mem, mem, memR, onRec, setC, datumList, datumSt}
+use Rattle.recorder.specs.Mem.{Mem, mem, memR, onRec, setC, datumList, datumSt, asWord, recordsIn}
 use Rattle.sheet.specs.declared.form.Shape.the-variants.{Data, Def}
 use Rattle.sheet.specs.Skip.{skipRepeat, skipList, skipFields, skipField, skipTimes, skipPair, skipItem}
 use Rattle.sheet.specs.Tree.{given, itemsAt, optAt, stmtNode, datumAt}
@@ -35,11 +34,11 @@ pub def-full : (s t : List ℕ) (base left at x y : ℕ) (o a : OptRange) (v w r
     → Defined s t base left at (given r) (given r) r x y m m1 p → Defined s t base left at (optOf o) (optOf a) r x y m m1 p
 def-full s t base left at x y o a v w r p m m1 h g z = record { place = z .place; result = rw (h, g) (z .result) }
 
-pub patched-at : (l l′ n b : List ℕ) (s : St) (k v : ℕ) → l′ ≡ onRec (setC v) l s k → mem l′ n b s ≡ mem (onRec (setC v) l s k) n b s
+pub patched-at : (l l′ n b : List ℕ) (s : List ℕ) (k v : ℕ) → l′ ≡ onRec (setC v) l s k → mem l′ n b s ≡ mem (onRec (setC v) l s k) n b s
 patched-at l l′ n b s k v e = rw e
 
-pub whole-of : (s t : List ℕ) (base left at x y a e p : ℕ) (r : Range) (m m1 m2 m3 m4 : Mem) → a ≡ m .st .records → m1 ≡ memR t .emit m 26 r x y 4294967295
-    → CompiledTyped s t base left at Real m1 m2 p → m3 ≡ memR t .emit m2 27 r 0 0 0 → e ≡ m3 .st .records → m4 ≡ memR t .patchEnd m3 a e
+pub whole-of : (s t : List ℕ) (base left at x y a e p : ℕ) (r : Range) (m m1 m2 m3 m4 : Mem) → a ≡ asWord (recordsIn (m .st)) → m1 ≡ memR t .emit m 26 r x y 4294967295
+    → CompiledTyped s t base left at Real m1 m2 p → m3 ≡ memR t .emit m2 27 r 0 0 0 → e ≡ asWord (recordsIn (m3 .st)) → m4 ≡ memR t .patchEnd m3 a e
     → Defined s t base left at (given r) (given r) r x y m m4 p
 whole-of s t base left at x y a e p r m m1 m2 m3 m4 ha h1 z h3 he h4 = record { place = z .place; result = rw (h4, he, h3, z .result, h1, ha) }
 
@@ -53,7 +52,7 @@ at-def s t base left k at r o a x y p q p1 m m1 m2 m3 hp ho ha hx hy hq z = reco
 }
 
 -- DATA
-pub datum-at : (l n b b′ : List ℕ) (s s′ : St) (x k q : ℕ) → (b′ ≡ datumList b s x k q) × (s′ ≡ datumSt b s) → mem l n b′ s′ ≡ mem l n (datumList b s x k q) (datumSt b s)
+pub datum-at : (l n b b′ : List ℕ) (s s′ : List ℕ) (x k q : ℕ) → (b′ ≡ datumList b s x k q) × (s′ ≡ datumSt b s) → mem l n b′ s′ ≡ mem l n (datumList b s x k q) (datumSt b s)
 datum-at l n b b′ s s′ x k q e = rw (e .0, e .1)
 
 pub datum-long : (t : List ℕ) (base q : ℕ) (r : Range) (n a : ℕ) (m m1 m2 : Mem) → n ≡ datumLength t base (datumOf r q) → a ≡ datumStart base (datumOf r q) → m1 ≡ memR t .datum m a n q

@@ -1,5 +1,4 @@
 // DATA.
-use expressions::expr::Behind;
 use recorder::codegen::St;
 use recorder::word::Range;
 ghost use mathlib.Core.Path.{_≡_};
@@ -34,64 +33,61 @@ fn datum_length(text: &[u16], base: u32, r: Range, quoted: u32) -> u32
 
 // A datum, and a note where it is above 255.
 fn datum_node(
-    text: &[u16],
+    text: &&[u16],
     notes: &mut [u32],
     book: &mut [u32],
-    st: St,
+    st: &mut St,
     base: u32,
     r: Range,
     quoted: u32,
-) -> St
-    ensures { λ x. ⌜ ((l : List ℕ) → mem l (now (notes .exit)) (now (book .exit)) x ≡ datumNode (memR (now (text .entry))) (now (text .entry)) base (datumOf r quoted) (mem l (now (notes .entry)) (now (book .entry)) st)) ⌝ }
+)
+    ensures { λ _. ⌜ ((l : List ℕ) → mem l (now (notes .exit)) (now (book .exit)) (now (st .exit)) ≡ datumNode (memR (now (now (text .entry)))) (now (now (text .entry))) base (datumOf r quoted) (mem l (now (notes .entry)) (now (book .entry)) (now (st .entry)))) ⌝ }
 {
-    let n = datum_length(text, base, r, quoted);
+    let n = datum_length(*text, base, r, quoted);
     let a = datum_start(base, r, quoted);
-    let s = recorder::codegen::emit_datum(book, st, a, n, quoted);
+    recorder::codegen::emit_datum(book, st, a, n, quoted);
     if 255 < n {
-        recorder::codegen::note(notes, s, 8, r, 1)
-    } else {
-        s
+        recorder::codegen::note(notes, st, 8, r, 1)
     }
 }
 
 // So many data.
 fn data_each(
-    sheet: &[u32],
-    text: &[u16],
+    sheet: &&[u32],
+    text: &&[u16],
     notes: &mut [u32],
     book: &mut [u32],
-    st: St,
+    st: &mut St,
     base: u32,
     at: usize,
     n: u32,
-) -> Behind
-    ensures { λ x. ⌜ ((l : List ℕ) → DataDone (now (sheet .entry)) (now (text .entry)) base at n (mem l (now (notes .entry)) (now (book .entry)) st) (mem l (now (notes .exit)) (now (book .exit)) (x .st)) (x .at)) ⌝ }
+) -> usize
+    ensures { λ x. ⌜ ((l : List ℕ) → DataDone (now (now (sheet .entry))) (now (now (text .entry))) base at n (mem l (now (notes .entry)) (now (book .entry)) (now (st .entry))) (mem l (now (notes .exit)) (now (book .exit)) (now (st .exit))) x) ⌝ }
 {
-    let mut s = st;
     let mut p = at;
     let mut more = n;
     while 0 < more {
-        let r = recorder::word::range_at(sheet, p);
-        let q = recorder::word::behind(sheet, p);
-        let quoted = recorder::word::payload_at(sheet, q);
-        s = datum_node(text, notes, book, s, base, r, quoted);
-        p = recorder::word::behind(sheet, q);
+        let r = recorder::word::range_at(*sheet, p);
+        let q = recorder::word::behind(*sheet, p);
+        let quoted = recorder::word::payload_at(*sheet, q);
+        datum_node(text, notes, book, st, base, r, quoted);
+        p = recorder::word::behind(*sheet, q);
         more -= 1;
     }
-    Behind { st: s, at: p }
+    p
 }
 
 pub fn compile_data(
-    sheet: &[u32],
-    text: &[u16],
+    sheet: &&[u32],
+    text: &&[u16],
     notes: &mut [u32],
     book: &mut [u32],
-    st: St,
+    st: &mut St,
     base: u32,
     at: usize,
-) -> Behind
-    ensures { λ x. ⌜ ((l : List ℕ) (left k : ℕ) (r : Range) → Body (now (sheet .entry)) (now (text .entry)) base left Data k r at (mem l (now (notes .entry)) (now (book .entry)) st) (mem l (now (notes .exit)) (now (book .exit)) (x .st)) (x .at)) ⌝ }
+) -> usize
+    ensures { λ x. ⌜ ((l : List ℕ) (left k : ℕ) (r : Range) → Body (now (now (sheet .entry))) (now (now (text .entry))) base left Data k r at (mem l (now (notes .entry)) (now (book .entry)) (now (st .entry))) (mem l (now (notes .exit)) (now (book .exit)) (now (st .exit))) x) ⌝ }
 {
-    let c = expressions::expr::read_payload(sheet, at);
+    let c = expressions::expr::read_payload(*sheet, at);
     data_each(sheet, text, notes, book, st, base, c.at, c.value)
 }

@@ -1,5 +1,4 @@
 // DEF.
-use expressions::expr::Behind;
 use nodes::node::OptRange;
 use recorder::codegen::St;
 use recorder::word::Range;
@@ -14,50 +13,49 @@ ghost use Rattle.declarations.specs.Parts.{Defined};
 
 // A function that has its name and its parameter: calls 26 and 27 around its body.
 fn def_whole(
-    sheet: &[u32],
-    text: &[u16],
+    sheet: &&[u32],
+    text: &&[u16],
     list: &mut [u32],
     notes: &mut [u32],
     book: &mut [u32],
-    st: St,
+    st: &mut St,
     base: u32,
     at: usize,
     left: usize,
     r: Range,
     name: u32,
     parameter: u32,
-) -> Behind
-    ensures { λ x. ⌜ Defined (now (sheet .entry)) (now (text .entry)) base left at (given r) (given r) r name parameter (mem (now (list .entry)) (now (notes .entry)) (now (book .entry)) st) (mem (now (list .exit)) (now (notes .exit)) (now (book .exit)) (x .st)) (x .at) ⌝ }
+) -> usize
+    ensures { λ x. ⌜ Defined (now (now (sheet .entry))) (now (now (text .entry))) base left at (given r) (given r) r name parameter (mem (now (list .entry)) (now (notes .entry)) (now (book .entry)) (now (st .entry))) (mem (now (list .exit)) (now (notes .exit)) (now (book .exit)) (now (st .exit))) x ⌝ }
 {
     let start = recorder::codegen::current_addr(st);
-    let b = recorder::codegen::begin_def_fn(list, st, r, name, parameter);
+    recorder::codegen::begin_def_fn(list, st, r, name, parameter);
     let x = expressions::expr::compile_typed(
         sheet,
         text,
         list,
         notes,
         book,
-        b,
+        st,
         base,
         at,
         left,
         Type::Real,
     );
-    let xs = x.st;
-    let e = recorder::codegen::end_def_fn(list, xs, r);
-    let end = recorder::codegen::current_addr(e);
-    recorder::codegen::patch_def_end(list, e, start, end);
-    Behind { st: e, at: x.at }
+    recorder::codegen::end_def_fn(list, st, r);
+    let end = recorder::codegen::current_addr(st);
+    recorder::codegen::patch_def_end(list, st, start, end);
+    x
 }
 
 // A function's body behind its name and its parameter.
 fn def_node(
-    sheet: &[u32],
-    text: &[u16],
+    sheet: &&[u32],
+    text: &&[u16],
     list: &mut [u32],
     notes: &mut [u32],
     book: &mut [u32],
-    st: St,
+    st: &mut St,
     base: u32,
     at: usize,
     left: usize,
@@ -66,8 +64,8 @@ fn def_node(
     r: Range,
     name: u32,
     parameter: u32,
-) -> Behind
-    ensures { λ x. ⌜ Defined (now (sheet .entry)) (now (text .entry)) base left at (optOf o) (optOf a) r name parameter (mem (now (list .entry)) (now (notes .entry)) (now (book .entry)) st) (mem (now (list .exit)) (now (notes .exit)) (now (book .exit)) (x .st)) (x .at) ⌝ }
+) -> usize
+    ensures { λ x. ⌜ Defined (now (now (sheet .entry))) (now (now (text .entry))) base left at (optOf o) (optOf a) r name parameter (mem (now (list .entry)) (now (notes .entry)) (now (book .entry)) (now (st .entry))) (mem (now (list .exit)) (now (notes .exit)) (now (book .exit)) (now (st .exit))) x ⌝ }
 {
     match o {
         OptRange::Given(_) => match a {
@@ -114,41 +112,39 @@ fn def_node(
 }
 
 pub fn compile_def(
-    sheet: &[u32],
-    text: &[u16],
+    sheet: &&[u32],
+    text: &&[u16],
     list: &mut [u32],
     notes: &mut [u32],
     book: &mut [u32],
-    st: St,
+    st: &mut St,
     base: u32,
     at: usize,
     left: usize,
     r: Range,
-) -> Behind
-    ensures { λ x. ⌜ ((k : ℕ) → Body (now (sheet .entry)) (now (text .entry)) base left Def k r at (mem (now (list .entry)) (now (notes .entry)) (now (book .entry)) st) (mem (now (list .exit)) (now (notes .exit)) (now (book .exit)) (x .st)) (x .at)) ⌝ }
+) -> usize
+    ensures { λ x. ⌜ ((k : ℕ) → Body (now (now (sheet .entry))) (now (now (text .entry))) base left Def k r at (mem (now (list .entry)) (now (notes .entry)) (now (book .entry)) (now (st .entry))) (mem (now (list .exit)) (now (notes .exit)) (now (book .exit)) (now (st .exit))) x) ⌝ }
 {
-    let p = recorder::word::behind(sheet, at);
-    let o = nodes::node::opt_range_at(sheet, at);
-    let a = nodes::node::opt_range_at(sheet, p);
-    let x = nodes::node::opt_real_sym(text, notes, book, st, base, o);
-    let xs = x.st;
-    let y = nodes::node::opt_real_sym(text, notes, book, xs, base, a);
-    let ys = y.st;
-    let q = recorder::word::behind(sheet, p);
+    let p = recorder::word::behind(*sheet, at);
+    let o = nodes::node::opt_range_at(*sheet, at);
+    let a = nodes::node::opt_range_at(*sheet, p);
+    let x = nodes::node::opt_real_sym(*text, notes, book, st, base, o);
+    let y = nodes::node::opt_real_sym(*text, notes, book, st, base, a);
+    let q = recorder::word::behind(*sheet, p);
     def_node(
         sheet,
         text,
         list,
         notes,
         book,
-        ys,
+        st,
         base,
         q,
         left,
         o,
         a,
         r,
-        x.number,
-        y.number,
+        x,
+        y,
     )
 }

@@ -1,4 +1,5 @@
-// compile_expr of compiler.rs: an expression and its list of arguments call each other; the remaining depth falls.
+// compile_expr of compiler.rs: an expression and its list of arguments call each other; the remaining depth falls. Here and in the
+// statements sheet and text are passed on as `&&`, one register each, and a number returned is the place behind.
 use recorder::codegen::St;
 use recorder::word::Range;
 use rules::tables::Wants;
@@ -9,17 +10,10 @@ ghost use Rattle.recorder.specs.Word.{rangeAt, next};
 ghost use Rattle.sheet.specs.Tree.{mantissaAt};
 ghost use Rattle.nodes.specs.Compiled.{Compiled, CompiledArgs, CompiledTyped, CompiledPlace, PlaceTyped, OpAt, PayloadAt};
 
-// What an expression leaves: the state, the place behind it, its kind.
+// What an expression leaves besides the state: the place behind it, its kind.
 pub struct TypedBehind {
-    pub st: St,
     pub at: usize,
     pub ty: Type,
-}
-
-// What a list of expressions or a statement leaves: the state, and the place behind it.
-pub struct Behind {
-    pub st: St,
-    pub at: usize,
 }
 
 // An operator's range and kind, and the place behind them.
@@ -73,136 +67,106 @@ fn mantissa_at(sheet: &[u32], at: usize) -> u32
 }
 
 pub fn compile_expr(
-    sheet: &[u32],
-    text: &[u16],
+    sheet: &&[u32],
+    text: &&[u16],
     list: &mut [u32],
     notes: &mut [u32],
     book: &mut [u32],
-    st: St,
+    st: &mut St,
     base: u32,
     at: usize,
     left: usize,
 ) -> TypedBehind
-    ensures { λ x. ⌜ Compiled (now (sheet .entry)) (now (text .entry)) base left at (mem (now (list .entry)) (now (notes .entry)) (now (book .entry)) st) (mem (now (list .exit)) (now (notes .exit)) (now (book .exit)) (x .st)) (x .at) (x .ty) ⌝ }
+    ensures { λ x. ⌜ Compiled (now (now (sheet .entry))) (now (now (text .entry))) base left at (mem (now (list .entry)) (now (notes .entry)) (now (book .entry)) (now (st .entry))) (mem (now (list .exit)) (now (notes .exit)) (now (book .exit)) (now (st .exit))) (x .at) (x .ty) ⌝ }
 {
     if left == 0 {
         return TypedBehind {
-            st,
             at,
             ty: Type::Error,
         };
     }
-    let k = recorder::word::payload_at(sheet, at);
-    let r = node_range(sheet, at);
-    let p = recorder::word::behind(sheet, recorder::word::behind(sheet, at));
+    let k = recorder::word::payload_at(*sheet, at);
+    let r = node_range(*sheet, at);
+    let p = recorder::word::behind(*sheet, recorder::word::behind(*sheet, at));
     match k {
         0 => {
-            let x = nodes::node::var_node(text, list, notes, book, st, base, r);
-            let xs = x.st;
-            let ty = x.ty;
-            TypedBehind { st: xs, at: p, ty }
+            let ty = nodes::node::var_node(*text, list, notes, book, st, base, r);
+            TypedBehind { at: p, ty }
         }
         1 => {
-            let s = nodes::node::text_node(text, list, notes, st, base, r);
+            nodes::node::text_node(*text, list, notes, st, base, r);
             TypedBehind {
-                st: s,
                 at: p,
                 ty: Type::String,
             }
         }
         2 => {
-            let e = read_payload(sheet, p);
-            let m = mantissa_at(sheet, e.at);
-            let q = recorder::word::behind(sheet, recorder::word::behind(sheet, e.at));
-            let s = nodes::node::number_node(list, notes, st, r, e.value, m);
+            let e = read_payload(*sheet, p);
+            let m = mantissa_at(*sheet, e.at);
+            let q = recorder::word::behind(*sheet, recorder::word::behind(*sheet, e.at));
+            nodes::node::number_node(list, notes, st, r, e.value, m);
             TypedBehind {
-                st: s,
                 at: q,
                 ty: Type::Real,
             }
         }
         3 => {
-            let f = op_at(sheet, p);
+            let f = op_at(*sheet, p);
             let fr = f.range;
-            let c = read_payload(sheet, f.at);
-            let s = nodes::node::func_notes(notes, st, f.kind, c.value, fr, r);
+            let c = read_payload(*sheet, f.at);
+            nodes::node::func_notes(notes, st, f.kind, c.value, fr, r);
             let x = compile_args(
                 sheet,
                 text,
                 list,
                 notes,
                 book,
-                s,
+                st,
                 base,
                 c.at,
                 c.value,
                 Wants::Func(f.kind),
                 left - 1,
             );
-            let xs = x.st;
-            let y = nodes::node::func_node(list, xs, f.kind, c.value, r);
-            let ys = y.st;
-            let ty = y.ty;
-            TypedBehind {
-                st: ys,
-                at: x.at,
-                ty,
-            }
+            let ty = nodes::node::func_node(list, st, f.kind, c.value, r);
+            TypedBehind { at: x, ty }
         }
         4 => {
-            let o = nodes::node::opt_range_at(sheet, p);
-            let q = recorder::word::behind(sheet, p);
-            let y = nodes::node::opt_real_sym(text, notes, book, st, base, o);
-            let ys = y.st;
-            let x = compile_expr(sheet, text, list, notes, book, ys, base, q, left - 1);
-            let xs = x.st;
+            let o = nodes::node::opt_range_at(*sheet, p);
+            let q = recorder::word::behind(*sheet, p);
+            let y = nodes::node::opt_real_sym(*text, notes, book, st, base, o);
+            let x = compile_expr(sheet, text, list, notes, book, st, base, q, left - 1);
             let xt = x.ty;
-            let cs = nodes::node::check_type(notes, xs, Type::Real, node_range(sheet, q), xt);
-            let us = nodes::node::user_call(list, cs, o, r, y.number);
+            nodes::node::check_type(notes, st, Type::Real, node_range(*sheet, q), xt);
+            nodes::node::user_call(list, st, o, r, y);
             TypedBehind {
-                st: us,
                 at: x.at,
                 ty: Type::Real,
             }
         }
         5 => {
             let x = compile_expr(sheet, text, list, notes, book, st, base, p, left - 1);
-            let xs = x.st;
             let xt = x.ty;
-            let o = op_at(sheet, x.at);
+            let o = op_at(*sheet, x.at);
             let or = o.range;
-            let y = compile_expr(sheet, text, list, notes, book, xs, base, o.at, left - 1);
-            let ys = y.st;
+            let y = compile_expr(sheet, text, list, notes, book, st, base, o.at, left - 1);
             let yt = y.ty;
-            let ar = node_range(sheet, p);
-            let br = node_range(sheet, o.at);
-            let z = nodes::node::binary_node(list, notes, ys, o.kind, r, ar, or, br, xt, yt);
-            let zs = z.st;
-            let ty = z.ty;
-            TypedBehind {
-                st: zs,
-                at: y.at,
-                ty,
-            }
+            let ar = node_range(*sheet, p);
+            let br = node_range(*sheet, o.at);
+            let ty = nodes::node::binary_node(list, notes, st, o.kind, r, ar, or, br, xt, yt);
+            TypedBehind { at: y.at, ty }
         }
         6 => {
-            let o = op_at(sheet, p);
+            let o = op_at(*sheet, p);
             let x = compile_expr(sheet, text, list, notes, book, st, base, o.at, left - 1);
-            let xs = x.st;
             let xt = x.ty;
-            let ar = node_range(sheet, o.at);
-            let z = nodes::node::unary_node(list, notes, xs, o.kind, r, ar, xt);
-            let zs = z.st;
-            let ty = z.ty;
-            TypedBehind {
-                st: zs,
-                at: x.at,
-                ty,
-            }
+            let ar = node_range(*sheet, o.at);
+            let ty = nodes::node::unary_node(list, notes, st, o.kind, r, ar, xt);
+            TypedBehind { at: x.at, ty }
         }
         7 => {
-            let o = nodes::node::opt_range_at(sheet, p);
-            let c = read_payload(sheet, recorder::word::behind(sheet, p));
+            let o = nodes::node::opt_range_at(*sheet, p);
+            let c = read_payload(*sheet, recorder::word::behind(*sheet, p));
             let x = compile_args(
                 sheet,
                 text,
@@ -216,26 +180,17 @@ pub fn compile_expr(
                 Wants::Every,
                 left - 1,
             );
-            let xs = x.st;
-            let z = nodes::node::index_node(text, list, notes, book, xs, base, o, r, c.value);
-            let zs = z.st;
-            let ty = z.ty;
-            TypedBehind {
-                st: zs,
-                at: x.at,
-                ty,
-            }
+            let ty = nodes::node::index_node(*text, list, notes, book, st, base, o, r, c.value);
+            TypedBehind { at: x, ty }
         }
         8 => {
-            let s = recorder::codegen::emit_inkey(list, st, r);
+            recorder::codegen::emit_inkey(list, st, r);
             TypedBehind {
-                st: s,
                 at: p,
                 ty: Type::String,
             }
         }
         _ => TypedBehind {
-            st,
             at: p,
             ty: Type::Error,
         },
@@ -244,94 +199,88 @@ pub fn compile_expr(
 
 // So many expressions, each with a note where its kind is not the one wanted.
 pub fn compile_args(
-    sheet: &[u32],
-    text: &[u16],
+    sheet: &&[u32],
+    text: &&[u16],
     list: &mut [u32],
     notes: &mut [u32],
     book: &mut [u32],
-    st: St,
+    st: &mut St,
     base: u32,
     at: usize,
     n: u32,
     wants: Wants,
     left: usize,
-) -> Behind
-    ensures { λ x. ⌜ CompiledArgs (now (sheet .entry)) (now (text .entry)) base left at n wants (mem (now (list .entry)) (now (notes .entry)) (now (book .entry)) st) (mem (now (list .exit)) (now (notes .exit)) (now (book .exit)) (x .st)) (x .at) ⌝ }
+) -> usize
+    ensures { λ x. ⌜ CompiledArgs (now (now (sheet .entry))) (now (now (text .entry))) base left at n wants (mem (now (list .entry)) (now (notes .entry)) (now (book .entry)) (now (st .entry))) (mem (now (list .exit)) (now (notes .exit)) (now (book .exit)) (now (st .exit))) x ⌝ }
 {
-    let mut s = st;
     let mut p = at;
     let mut i: u32 = 0;
     let mut more = n;
     while 0 < more {
-        let x = compile_expr(sheet, text, list, notes, book, s, base, p, left);
-        let xs = x.st;
+        let x = compile_expr(sheet, text, list, notes, book, st, base, p, left);
         let xt = x.ty;
         let w = rules::tables::want(wants, i);
-        s = nodes::node::check_type(notes, xs, w, node_range(sheet, p), xt);
+        nodes::node::check_type(notes, st, w, node_range(*sheet, p), xt);
         p = x.at;
         i += 1;
         more -= 1;
     }
-    Behind { st: s, at: p }
+    p
 }
 
 // An expression of which a kind is wanted.
 pub fn compile_typed(
-    sheet: &[u32],
-    text: &[u16],
+    sheet: &&[u32],
+    text: &&[u16],
     list: &mut [u32],
     notes: &mut [u32],
     book: &mut [u32],
-    st: St,
+    st: &mut St,
     base: u32,
     at: usize,
     left: usize,
     want: Type,
-) -> Behind
-    ensures { λ x. ⌜ CompiledTyped (now (sheet .entry)) (now (text .entry)) base left at want (mem (now (list .entry)) (now (notes .entry)) (now (book .entry)) st) (mem (now (list .exit)) (now (notes .exit)) (now (book .exit)) (x .st)) (x .at) ⌝ }
+) -> usize
+    ensures { λ x. ⌜ CompiledTyped (now (now (sheet .entry))) (now (now (text .entry))) base left at want (mem (now (list .entry)) (now (notes .entry)) (now (book .entry)) (now (st .entry))) (mem (now (list .exit)) (now (notes .exit)) (now (book .exit)) (now (st .exit))) x ⌝ }
 {
     let x = compile_expr(sheet, text, list, notes, book, st, base, at, left);
-    let xs = x.st;
     let xt = x.ty;
-    let r = node_range(sheet, at);
-    let s = nodes::node::check_type(notes, xs, want, r, xt);
-    Behind { st: s, at: x.at }
+    let r = node_range(*sheet, at);
+    nodes::node::check_type(notes, st, want, r, xt);
+    x.at
 }
 
 // compile_lvalue: a place to store, which is a variable or an array's element; anything else makes nothing.
 pub fn compile_lvalue(
-    sheet: &[u32],
-    text: &[u16],
+    sheet: &&[u32],
+    text: &&[u16],
     list: &mut [u32],
     notes: &mut [u32],
     book: &mut [u32],
-    st: St,
+    st: &mut St,
     base: u32,
     at: usize,
     left: usize,
 ) -> TypedBehind
-    ensures { λ x. ⌜ CompiledPlace (now (sheet .entry)) (now (text .entry)) base left at (mem (now (list .entry)) (now (notes .entry)) (now (book .entry)) st) (mem (now (list .exit)) (now (notes .exit)) (now (book .exit)) (x .st)) (x .at) (x .ty) ⌝ }
+    ensures { λ x. ⌜ CompiledPlace (now (now (sheet .entry))) (now (now (text .entry))) base left at (mem (now (list .entry)) (now (notes .entry)) (now (book .entry)) (now (st .entry))) (mem (now (list .exit)) (now (notes .exit)) (now (book .exit)) (now (st .exit))) (x .at) (x .ty) ⌝ }
 {
     if left == 0 {
         return TypedBehind {
-            st,
             at,
             ty: Type::Error,
         };
     }
-    let k = recorder::word::payload_at(sheet, at);
-    let r = node_range(sheet, at);
-    let p = recorder::word::behind(sheet, recorder::word::behind(sheet, at));
+    let k = recorder::word::payload_at(*sheet, at);
+    let r = node_range(*sheet, at);
+    let p = recorder::word::behind(*sheet, recorder::word::behind(*sheet, at));
     match k {
         0 => {
-            let x = nodes::node::var_place(text, list, notes, book, st, base, r);
-            let xs = x.st;
-            let ty = x.ty;
-            TypedBehind { st: xs, at: p, ty }
+            let ty = nodes::node::var_place(*text, list, notes, book, st, base, r);
+            TypedBehind { at: p, ty }
         }
         7 => {
-            let o = nodes::node::opt_range_at(sheet, p);
-            let c = read_payload(sheet, recorder::word::behind(sheet, p));
+            let o = nodes::node::opt_range_at(*sheet, p);
+            let c = read_payload(*sheet, recorder::word::behind(*sheet, p));
             let x = compile_args(
                 sheet,
                 text,
@@ -345,19 +294,11 @@ pub fn compile_lvalue(
                 Wants::Every,
                 left - 1,
             );
-            let xs = x.st;
-            let z = nodes::node::index_place(text, list, notes, book, xs, base, o, c.value);
-            let zs = z.st;
-            let ty = z.ty;
-            TypedBehind {
-                st: zs,
-                at: x.at,
-                ty,
-            }
+            let ty = nodes::node::index_place(*text, list, notes, book, st, base, o, c.value);
+            TypedBehind { at: x, ty }
         }
         _ => TypedBehind {
-            st,
-            at: walk::stmt::skip_expr(sheet, at, left),
+            at: walk::stmt::skip_expr(*sheet, at, left),
             ty: Type::Error,
         },
     }
@@ -365,23 +306,22 @@ pub fn compile_lvalue(
 
 // A place to store of which a kind is wanted.
 pub fn place_typed(
-    sheet: &[u32],
-    text: &[u16],
+    sheet: &&[u32],
+    text: &&[u16],
     list: &mut [u32],
     notes: &mut [u32],
     book: &mut [u32],
-    st: St,
+    st: &mut St,
     base: u32,
     at: usize,
     left: usize,
     want: Type,
-) -> Behind
-    ensures { λ x. ⌜ PlaceTyped (now (sheet .entry)) (now (text .entry)) base left at want (mem (now (list .entry)) (now (notes .entry)) (now (book .entry)) st) (mem (now (list .exit)) (now (notes .exit)) (now (book .exit)) (x .st)) (x .at) ⌝ }
+) -> usize
+    ensures { λ x. ⌜ PlaceTyped (now (now (sheet .entry))) (now (now (text .entry))) base left at want (mem (now (list .entry)) (now (notes .entry)) (now (book .entry)) (now (st .entry))) (mem (now (list .exit)) (now (notes .exit)) (now (book .exit)) (now (st .exit))) x ⌝ }
 {
     let x = compile_lvalue(sheet, text, list, notes, book, st, base, at, left);
-    let xs = x.st;
     let xt = x.ty;
-    let r = node_range(sheet, at);
-    let s = nodes::node::check_type(notes, xs, want, r, xt);
-    Behind { st: s, at: x.at }
+    let r = node_range(*sheet, at);
+    nodes::node::check_type(notes, st, want, r, xt);
+    x.at
 }

@@ -1,7 +1,5 @@
 // INPUT: its source stands first in the sheet and is compiled last.
-use expressions::expr::Behind;
 use nodes::node::OptRange;
-use recorder::codegen::Named;
 use recorder::codegen::St;
 use recorder::word::Range;
 use rules::types::Type;
@@ -30,81 +28,77 @@ fn is_ident(sheet: &[u32], at: usize, left: usize) -> bool
 
 // A function's argument, which must be a variable: else class 12.
 fn input_arg(
-    text: &[u16],
+    text: &&[u16],
     notes: &mut [u32],
     book: &mut [u32],
-    st: St,
+    st: &mut St,
     base: u32,
     ident: bool,
     r: Range,
-) -> Named
-    ensures { λ x. ⌜ ((l : List ℕ) (e : Expr) → exprRange e ≡ r → named (mem l (now (notes .exit)) (now (book .exit)) (x .st)) (x .number) ≡ inputArgBy (memR (now (text .entry))) (now (text .entry)) base ident e (mem l (now (notes .entry)) (now (book .entry)) st)) ⌝ }
+) -> u32
+    ensures { λ x. ⌜ ((l : List ℕ) (e : Expr) → exprRange e ≡ r → named (mem l (now (notes .exit)) (now (book .exit)) (now (st .exit))) x ≡ inputArgBy (memR (now (now (text .entry)))) (now (now (text .entry))) base ident e (mem l (now (notes .entry)) (now (book .entry)) (now (st .entry)))) ⌝ }
 {
     if ident {
-        nodes::node::real_sym(text, notes, book, st, base, r)
+        nodes::node::real_sym(*text, notes, book, st, base, r)
     } else {
-        let s = recorder::codegen::note(notes, st, 12, r, 1);
-        Named { st: s, number: 0 }
+        recorder::codegen::note(notes, st, 12, r, 1);
+        0
     }
 }
 
 // A function of a variable to store to: call 9.
-fn fn_place(list: &mut [u32], st: St, o: OptRange, ident: bool, r: Range, n: u32, a: u32) -> St
-    ensures { λ x. ⌜ ((t k b : List ℕ) (base : ℕ) → mem (now (list .exit)) k b x ≡ fnPlace (memR t) t base (optOf o) ident r n a (mem (now (list .entry)) k b st)) ⌝ }
+fn fn_place(list: &mut [u32], st: &mut St, o: OptRange, ident: bool, r: Range, n: u32, a: u32)
+    ensures { λ _. ⌜ ((t k b : List ℕ) (base : ℕ) → mem (now (list .exit)) k b (now (st .exit)) ≡ fnPlace (memR t) t base (optOf o) ident r n a (mem (now (list .entry)) k b (now (st .entry)))) ⌝ }
 {
     match o {
         OptRange::Given(_) => {
             if ident {
                 recorder::codegen::emit_fn_lvalue(list, st, r, n, a)
-            } else {
-                st
             }
         }
-        OptRange::Absent => st,
+        OptRange::Absent => {}
     }
 }
 
 // From the keyboard: a function's name, its argument, and its place.
 fn input_fn(
-    sheet: &[u32],
-    text: &[u16],
+    sheet: &&[u32],
+    text: &&[u16],
     list: &mut [u32],
     notes: &mut [u32],
     book: &mut [u32],
-    st: St,
+    st: &mut St,
     base: u32,
     at: usize,
     left: usize,
     r: Range,
-) -> St
-    ensures { λ x. ⌜ mem (now (list .exit)) (now (notes .exit)) (now (book .exit)) x ≡ inputFn (memR (now (text .entry))) (now (text .entry)) base r (optAt (now (sheet .entry)) (rangeAt (now (sheet .entry))) at) (exprAt (now (sheet .entry)) left (next (now (sheet .entry)) at)) (mem (now (list .entry)) (now (notes .entry)) (now (book .entry)) st) ⌝ }
+)
+    ensures { λ _. ⌜ mem (now (list .exit)) (now (notes .exit)) (now (book .exit)) (now (st .exit)) ≡ inputFn (memR (now (now (text .entry)))) (now (now (text .entry))) base r (optAt (now (now (sheet .entry))) (rangeAt (now (now (sheet .entry)))) at) (exprAt (now (now (sheet .entry))) left (next (now (now (sheet .entry))) at)) (mem (now (list .entry)) (now (notes .entry)) (now (book .entry)) (now (st .entry))) ⌝ }
 {
-    let o = nodes::node::opt_range_at(sheet, at);
-    let q = recorder::word::behind(sheet, at);
-    let x = nodes::node::opt_real_sym(text, notes, book, st, base, o);
-    let xs = x.st;
-    let i = is_ident(sheet, q, left);
-    let ar = expressions::expr::node_range(sheet, q);
-    let y = input_arg(text, notes, book, xs, base, i, ar);
-    let ys = y.st;
-    fn_place(list, ys, o, i, r, x.number, y.number)
+    let o = nodes::node::opt_range_at(*sheet, at);
+    let q = recorder::word::behind(*sheet, at);
+    let x = nodes::node::opt_real_sym(*text, notes, book, st, base, o);
+    let i = is_ident(*sheet, q, left);
+    let ar = expressions::expr::node_range(*sheet, q);
+    let y = input_arg(text, notes, book, st, base, i, ar);
+    fn_place(list, st, o, i, r, x, y)
 }
 
 // From a file no function is read: class 12.
 fn fn_input(
-    sheet: &[u32],
-    text: &[u16],
+    sheet: &&[u32],
+    text: &&[u16],
     list: &mut [u32],
     notes: &mut [u32],
     book: &mut [u32],
-    st: St,
+    st: &mut St,
     base: u32,
     at: usize,
     left: usize,
     r: Range,
     file: bool,
-) -> St
-    ensures { λ x. ⌜ mem (now (list .exit)) (now (notes .exit)) (now (book .exit)) x ≡ fnInput (memR (now (text .entry))) (now (text .entry)) base file r (optAt (now (sheet .entry)) (rangeAt (now (sheet .entry))) at) (exprAt (now (sheet .entry)) left (next (now (sheet .entry)) at)) (mem (now (list .entry)) (now (notes .entry)) (now (book .entry)) st) ⌝ }
+)
+    ensures { λ _. ⌜ mem (now (list .exit)) (now (notes .exit)) (now (book .exit)) (now (st .exit)) ≡ fnInput (memR (now (now (text .entry)))) (now (now (text .entry))) base file r (optAt (now (now (sheet .entry))) (rangeAt (now (now (sheet .entry)))) at) (exprAt (now (now (sheet .entry))) left (next (now (now (sheet .entry))) at)) (mem (now (list .entry)) (now (notes .entry)) (now (book .entry)) (now (st .entry))) ⌝ }
 {
     if file {
         recorder::codegen::note(notes, st, 12, r, 1)
@@ -114,27 +108,27 @@ fn fn_input(
 }
 
 fn input_var(
-    sheet: &[u32],
-    text: &[u16],
+    sheet: &&[u32],
+    text: &&[u16],
     list: &mut [u32],
     notes: &mut [u32],
     book: &mut [u32],
-    st: St,
+    st: &mut St,
     base: u32,
     at: usize,
     left: usize,
     file: bool,
-) -> Behind
-    ensures { λ x. ⌜ Taken (now (sheet .entry)) (now (text .entry)) base left at file (mem (now (list .entry)) (now (notes .entry)) (now (book .entry)) st) (mem (now (list .exit)) (now (notes .exit)) (now (book .exit)) (x .st)) (x .at) ⌝ }
+) -> usize
+    ensures { λ x. ⌜ Taken (now (now (sheet .entry))) (now (now (text .entry))) base left at file (mem (now (list .entry)) (now (notes .entry)) (now (book .entry)) (now (st .entry))) (mem (now (list .exit)) (now (notes .exit)) (now (book .exit)) (now (st .exit))) x ⌝ }
 {
     if left == 0 {
-        return Behind { st, at };
+        return at;
     }
-    let k = recorder::word::payload_at(sheet, at);
-    let r = expressions::expr::node_range(sheet, at);
-    let p = recorder::word::behind(sheet, recorder::word::behind(sheet, at));
+    let k = recorder::word::payload_at(*sheet, at);
+    let r = expressions::expr::node_range(*sheet, at);
+    let p = recorder::word::behind(*sheet, recorder::word::behind(*sheet, at));
     if k == 4 {
-        let s = fn_input(
+        fn_input(
             sheet,
             text,
             list,
@@ -147,8 +141,8 @@ fn input_var(
             r,
             file,
         );
-        let q = walk::stmt::skip_expr(sheet, at, left);
-        Behind { st: s, at: q }
+        let q = walk::stmt::skip_expr(*sheet, at, left);
+        q
     } else {
         let x = expressions::expr::compile_lvalue(
             sheet,
@@ -161,62 +155,58 @@ fn input_var(
             at,
             left,
         );
-        let xs = x.st;
-        Behind { st: xs, at: x.at }
+        x.at
     }
 }
 
 fn input_vars(
-    sheet: &[u32],
-    text: &[u16],
+    sheet: &&[u32],
+    text: &&[u16],
     list: &mut [u32],
     notes: &mut [u32],
     book: &mut [u32],
-    st: St,
+    st: &mut St,
     base: u32,
     at: usize,
     n: u32,
     left: usize,
     file: bool,
-) -> Behind
-    ensures { λ x. ⌜ TakenAll (now (sheet .entry)) (now (text .entry)) base left at n file (mem (now (list .entry)) (now (notes .entry)) (now (book .entry)) st) (mem (now (list .exit)) (now (notes .exit)) (now (book .exit)) (x .st)) (x .at) ⌝ }
+) -> usize
+    ensures { λ x. ⌜ TakenAll (now (now (sheet .entry))) (now (now (text .entry))) base left at n file (mem (now (list .entry)) (now (notes .entry)) (now (book .entry)) (now (st .entry))) (mem (now (list .exit)) (now (notes .exit)) (now (book .exit)) (now (st .exit))) x ⌝ }
 {
-    let mut s = st;
     let mut p = at;
     let mut more = n;
     while 0 < more {
-        let x = input_var(sheet, text, list, notes, book, s, base, p, left, file);
-        s = x.st;
-        p = x.at;
+        p = input_var(sheet, text, list, notes, book, st, base, p, left, file);
         more -= 1;
     }
-    Behind { st: s, at: p }
+    p
 }
 
 // The keyboard's call 32, behind a prompt that may be there, or a file's call 33 behind its number.
 fn input_source(
-    sheet: &[u32],
-    text: &[u16],
+    sheet: &&[u32],
+    text: &&[u16],
     list: &mut [u32],
     notes: &mut [u32],
     book: &mut [u32],
-    st: St,
+    st: &mut St,
     base: u32,
     at: usize,
     left: usize,
     r: Range,
     n: u32,
-) -> St
-    ensures { λ x. ⌜ ((child : ℕ → Stmt) → mem (now (list .exit)) (now (notes .exit)) (now (book .exit)) x ≡ inputSource (memR (now (text .entry))) (now (text .entry)) base r n (sourceOf (now (sheet .entry)) left child (payloadAt (now (sheet .entry)) at) (next (now (sheet .entry)) at)) (mem (now (list .entry)) (now (notes .entry)) (now (book .entry)) st)) ⌝ }
+)
+    ensures { λ _. ⌜ ((child : ℕ → Stmt) → mem (now (list .exit)) (now (notes .exit)) (now (book .exit)) (now (st .exit)) ≡ inputSource (memR (now (now (text .entry)))) (now (now (text .entry))) base r n (sourceOf (now (now (sheet .entry))) left child (payloadAt (now (now (sheet .entry))) at) (next (now (now (sheet .entry))) at)) (mem (now (list .entry)) (now (notes .entry)) (now (book .entry)) (now (st .entry)))) ⌝ }
 {
-    let k = recorder::word::payload_at(sheet, at);
-    let p = recorder::word::behind(sheet, at);
+    let k = recorder::word::payload_at(*sheet, at);
+    let p = recorder::word::behind(*sheet, at);
     match k {
         0 => recorder::codegen::emit_keyboard_input(list, st, r, 0, n),
         1 => {
-            let pr = recorder::word::range_at(sheet, p);
-            let s = nodes::node::text_node(text, list, notes, st, base, pr);
-            recorder::codegen::emit_keyboard_input(list, s, r, 1, n)
+            let pr = recorder::word::range_at(*sheet, p);
+            nodes::node::text_node(*text, list, notes, st, base, pr);
+            recorder::codegen::emit_keyboard_input(list, st, r, 1, n)
         }
         _ => {
             let x = expressions::expr::compile_typed(
@@ -231,8 +221,7 @@ fn input_source(
                 left,
                 Type::Real,
             );
-            let xs = x.st;
-            recorder::codegen::emit_file_input(list, xs, r, n)
+            recorder::codegen::emit_file_input(list, st, r, n)
         }
     }
 }
@@ -249,22 +238,22 @@ fn is_file(sheet: &[u32], at: usize) -> bool
 
 // Its variables stand behind its source and are compiled before it.
 pub fn compile_input(
-    sheet: &[u32],
-    text: &[u16],
+    sheet: &&[u32],
+    text: &&[u16],
     list: &mut [u32],
     notes: &mut [u32],
     book: &mut [u32],
-    st: St,
+    st: &mut St,
     base: u32,
     at: usize,
     left: usize,
     r: Range,
-) -> Behind
-    ensures { λ x. ⌜ ((k : ℕ) → Body (now (sheet .entry)) (now (text .entry)) base left Input k r at (mem (now (list .entry)) (now (notes .entry)) (now (book .entry)) st) (mem (now (list .exit)) (now (notes .exit)) (now (book .exit)) (x .st)) (x .at)) ⌝ }
+) -> usize
+    ensures { λ x. ⌜ ((k : ℕ) → Body (now (now (sheet .entry))) (now (now (text .entry))) base left Input k r at (mem (now (list .entry)) (now (notes .entry)) (now (book .entry)) (now (st .entry))) (mem (now (list .exit)) (now (notes .exit)) (now (book .exit)) (now (st .exit))) x) ⌝ }
 {
-    let q = walk::stmt::skip_source(sheet, left, at);
-    let file = is_file(sheet, at);
-    let c = expressions::expr::read_payload(sheet, q);
+    let q = walk::stmt::skip_source(*sheet, left, at);
+    let file = is_file(*sheet, at);
+    let c = expressions::expr::read_payload(*sheet, q);
     let x = input_vars(
         sheet,
         text,
@@ -278,19 +267,18 @@ pub fn compile_input(
         left,
         file,
     );
-    let xs = x.st;
-    let s = input_source(
+    input_source(
         sheet,
         text,
         list,
         notes,
         book,
-        xs,
+        st,
         base,
         at,
         left,
         r,
         c.value,
     );
-    Behind { st: s, at: x.at }
+    x
 }

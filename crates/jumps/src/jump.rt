@@ -1,5 +1,4 @@
 // Statements with labels: GOSUB, GOTO, RESTORE and ON. A jump waits for its label.
-use expressions::expr::Behind;
 use recorder::codegen::St;
 use recorder::label::Label;
 use recorder::word::Range;
@@ -71,8 +70,8 @@ pub fn packed(r: Range) -> u32
 }
 
 // A jump that waits for its label; sub is 1 for GOSUB.
-fn pending_jump(list: &mut [u32], st: St, sub: u32, r: Range, l: Label, lr: Range) -> St
-    ensures { λ x. ⌜ ((t n b : List ℕ) (base : ℕ) → mem (now (list .exit)) n b x ≡ pendingJump (memR t) t base sub r (l .0) lr (mem (now (list .entry)) n b st)) ⌝ }
+fn pending_jump(list: &mut [u32], st: &mut St, sub: u32, r: Range, l: Label, lr: Range)
+    ensures { λ _. ⌜ ((t n b : List ℕ) (base : ℕ) → mem (now (list .exit)) n b (now (st .exit)) ≡ pendingJump (memR t) t base sub r (l .0) lr (mem (now (list .entry)) n b (now (st .entry)))) ⌝ }
 {
     let w = packed(lr);
     let v = (l.0 as u32) + 1;
@@ -84,86 +83,78 @@ fn pending_jump(list: &mut [u32], st: St, sub: u32, r: Range, l: Label, lr: Rang
 }
 
 // An absent label is label 0, and a note on it has the statement's range.
-fn compile_go(list: &mut [u32], st: St, r: Range, sub: u32, o: OptTarget) -> St
-    ensures { λ x. ⌜ ((t n b : List ℕ) (base : ℕ) → mem (now (list .exit)) n b x ≡ compileGo (memR t) t base r sub (targetOf o) (mem (now (list .entry)) n b st)) ⌝ }
+fn compile_go(list: &mut [u32], st: &mut St, r: Range, sub: u32, o: OptTarget)
+    ensures { λ _. ⌜ ((t n b : List ℕ) (base : ℕ) → mem (now (list .exit)) n b (now (st .exit)) ≡ compileGo (memR t) t base r sub (targetOf o) (mem (now (list .entry)) n b (now (st .entry)))) ⌝ }
 {
     let OptTarget::Given(lr, l) = o else {
-        return pending_jump(list, st, sub, r, Label(0), r);
+        pending_jump(list, st, sub, r, Label(0), r);
+        return;
     };
     pending_jump(list, st, sub, r, l, lr)
 }
 
-pub fn compile_gosub(sheet: &[u32], list: &mut [u32], st: St, at: usize, r: Range) -> Behind
-    ensures { λ x. ⌜ ((t n b : List ℕ) (base left k : ℕ) → Body (now (sheet .entry)) t base left Shape.GoSub k r at (mem (now (list .entry)) n b st) (mem (now (list .exit)) n b (x .st)) (x .at)) ⌝ }
+pub fn compile_gosub(sheet: &&[u32], list: &mut [u32], st: &mut St, at: usize, r: Range) -> usize
+    ensures { λ x. ⌜ ((t n b : List ℕ) (base left k : ℕ) → Body (now (now (sheet .entry))) t base left Shape.GoSub k r at (mem (now (list .entry)) n b (now (st .entry))) (mem (now (list .exit)) n b (now (st .exit))) x) ⌝ }
 {
-    let o = target_at(sheet, at);
-    let s = compile_go(list, st, r, 1, o);
-    Behind {
-        st: s,
-        at: behind_target(sheet, at),
-    }
+    let o = target_at(*sheet, at);
+    compile_go(list, st, r, 1, o);
+    behind_target(*sheet, at)
 }
 
 // Behind its flag, which says whether the word GOTO stands there.
-pub fn compile_goto(sheet: &[u32], list: &mut [u32], st: St, at: usize, r: Range) -> Behind
-    ensures { λ x. ⌜ ((t n b : List ℕ) (base left k : ℕ) → Body (now (sheet .entry)) t base left Shape.GoTo k r at (mem (now (list .entry)) n b st) (mem (now (list .exit)) n b (x .st)) (x .at)) ⌝ }
+pub fn compile_goto(sheet: &&[u32], list: &mut [u32], st: &mut St, at: usize, r: Range) -> usize
+    ensures { λ x. ⌜ ((t n b : List ℕ) (base left k : ℕ) → Body (now (now (sheet .entry))) t base left Shape.GoTo k r at (mem (now (list .entry)) n b (now (st .entry))) (mem (now (list .exit)) n b (now (st .exit))) x) ⌝ }
 {
-    let p = recorder::word::behind(sheet, at);
-    let o = target_at(sheet, p);
-    let s = compile_go(list, st, r, 0, o);
-    Behind {
-        st: s,
-        at: behind_target(sheet, p),
-    }
+    let p = recorder::word::behind(*sheet, at);
+    let o = target_at(*sheet, p);
+    compile_go(list, st, r, 0, o);
+    behind_target(*sheet, p)
 }
 
-fn restore_node(list: &mut [u32], st: St, r: Range, o: OptTarget) -> St
-    ensures { λ x. ⌜ ((t n b : List ℕ) (base : ℕ) → mem (now (list .exit)) n b x ≡ compileRestore (memR t) t base r (targetOf o) (mem (now (list .entry)) n b st)) ⌝ }
+fn restore_node(list: &mut [u32], st: &mut St, r: Range, o: OptTarget)
+    ensures { λ _. ⌜ ((t n b : List ℕ) (base : ℕ) → mem (now (list .exit)) n b (now (st .exit)) ≡ compileRestore (memR t) t base r (targetOf o) (mem (now (list .entry)) n b (now (st .entry)))) ⌝ }
 {
     let OptTarget::Given(lr, l) = o else {
-        return recorder::codegen::emit_restore(list, st, r, 0, 0);
+        recorder::codegen::emit_restore(list, st, r, 0, 0);
+        return;
     };
     let w = packed(lr);
     let v = (l.0 as u32) + 1;
     recorder::codegen::emit_restore(list, st, r, v, w)
 }
 
-pub fn compile_restore(sheet: &[u32], list: &mut [u32], st: St, at: usize, r: Range) -> Behind
-    ensures { λ x. ⌜ ((t n b : List ℕ) (base left k : ℕ) → Body (now (sheet .entry)) t base left Shape.Restore k r at (mem (now (list .entry)) n b st) (mem (now (list .exit)) n b (x .st)) (x .at)) ⌝ }
+pub fn compile_restore(sheet: &&[u32], list: &mut [u32], st: &mut St, at: usize, r: Range) -> usize
+    ensures { λ x. ⌜ ((t n b : List ℕ) (base left k : ℕ) → Body (now (now (sheet .entry))) t base left Shape.Restore k r at (mem (now (list .entry)) n b (now (st .entry))) (mem (now (list .exit)) n b (now (st .exit))) x) ⌝ }
 {
-    let o = target_at(sheet, at);
-    let s = restore_node(list, st, r, o);
-    Behind {
-        st: s,
-        at: behind_target(sheet, at),
-    }
+    let o = target_at(*sheet, at);
+    restore_node(list, st, r, o);
+    behind_target(*sheet, at)
 }
 
-fn on_jump(list: &mut [u32], st: St, sub: u32, r: Range, o: OptLabel) -> St
-    ensures { λ x. ⌜ ((t n b : List ℕ) (base : ℕ) → mem (now (list .exit)) n b x ≡ pendingJump (memR t) t base sub r (labelOr0 (labelOf o)) r (mem (now (list .entry)) n b st)) ⌝ }
+fn on_jump(list: &mut [u32], st: &mut St, sub: u32, r: Range, o: OptLabel)
+    ensures { λ _. ⌜ ((t n b : List ℕ) (base : ℕ) → mem (now (list .exit)) n b (now (st .exit)) ≡ pendingJump (memR t) t base sub r (labelOr0 (labelOf o)) r (mem (now (list .entry)) n b (now (st .entry)))) ⌝ }
 {
     let OptLabel::Given(l) = o else {
-        return pending_jump(list, st, sub, r, Label(0), r);
+        pending_jump(list, st, sub, r, Label(0), r);
+        return;
     };
     pending_jump(list, st, sub, r, l, r)
 }
 
 // So many targets, a jump each.
-fn on_jumps(sheet: &[u32], list: &mut [u32], st: St, at: usize, n: u32, sub: u32) -> St
-    ensures { λ x. ⌜ ((t o b : List ℕ) (base : ℕ) → mem (now (list .exit)) o b x ≡ onJumps (memR t) t base sub (onTargetsAt (now (sheet .entry)) n at) (mem (now (list .entry)) o b st)) ⌝ }
+fn on_jumps(sheet: &&[u32], list: &mut [u32], st: &mut St, at: usize, n: u32, sub: u32)
+    ensures { λ _. ⌜ ((t o b : List ℕ) (base : ℕ) → mem (now (list .exit)) o b (now (st .exit)) ≡ onJumps (memR t) t base sub (onTargetsAt (now (now (sheet .entry))) n at) (mem (now (list .entry)) o b (now (st .entry)))) ⌝ }
 {
-    let mut s = st;
     let mut p = at;
     let mut more = n;
     while 0 < more {
-        let r = recorder::word::range_at(sheet, p);
-        let q = recorder::word::behind(sheet, p);
-        let o = opt_label_at(sheet, q);
-        s = on_jump(list, s, sub, r, o);
-        p = recorder::word::behind(sheet, q);
+        let r = recorder::word::range_at(*sheet, p);
+        let q = recorder::word::behind(*sheet, p);
+        let o = opt_label_at(*sheet, q);
+        on_jump(list, st, sub, r, o);
+        p = recorder::word::behind(*sheet, q);
         more -= 1;
     }
-    s
 }
 
 // The place behind so many targets.
@@ -182,18 +173,18 @@ fn behind_targets(sheet: &[u32], at: usize, n: u32) -> usize
 
 // The targets stand before the flag that says whether they are GOSUB's.
 pub fn compile_on(
-    sheet: &[u32],
-    text: &[u16],
+    sheet: &&[u32],
+    text: &&[u16],
     list: &mut [u32],
     notes: &mut [u32],
     book: &mut [u32],
-    st: St,
+    st: &mut St,
     base: u32,
     at: usize,
     left: usize,
     r: Range,
-) -> Behind
-    ensures { λ x. ⌜ ((k : ℕ) → Body (now (sheet .entry)) (now (text .entry)) base left Shape.On k r at (mem (now (list .entry)) (now (notes .entry)) (now (book .entry)) st) (mem (now (list .exit)) (now (notes .exit)) (now (book .exit)) (x .st)) (x .at)) ⌝ }
+) -> usize
+    ensures { λ x. ⌜ ((k : ℕ) → Body (now (now (sheet .entry))) (now (now (text .entry))) base left Shape.On k r at (mem (now (list .entry)) (now (notes .entry)) (now (book .entry)) (now (st .entry))) (mem (now (list .exit)) (now (notes .exit)) (now (book .exit)) (now (st .exit))) x) ⌝ }
 {
     let x = expressions::expr::compile_typed(
         sheet,
@@ -207,14 +198,10 @@ pub fn compile_on(
         left,
         Type::Real,
     );
-    let xs = x.st;
-    let c = expressions::expr::read_payload(sheet, x.at);
-    let e = behind_targets(sheet, c.at, c.value);
-    let sub = recorder::word::payload_at(sheet, e);
-    let cs = recorder::codegen::emit_on(list, xs, r, c.value);
-    let s = on_jumps(sheet, list, cs, c.at, c.value, sub);
-    Behind {
-        st: s,
-        at: recorder::word::behind(sheet, e),
-    }
+    let c = expressions::expr::read_payload(*sheet, x);
+    let e = behind_targets(*sheet, c.at, c.value);
+    let sub = recorder::word::payload_at(*sheet, e);
+    recorder::codegen::emit_on(list, st, r, c.value);
+    on_jumps(sheet, list, st, c.at, c.value, sub);
+    recorder::word::behind(*sheet, e)
 }

@@ -7,9 +7,8 @@ use lib.ListN.{getD, length}
 use lib.Dec.{ltb}
 use native.Mathlib.Omega.{arith}
 use Rattle.recorder.specs.declared.word.Range.{Range}
-use Rattle.recorder.specs.declared.codegen.St.{St}
 use Rattle.recorder.specs.Word.{pick, payloadAt, rangeAt, next}
-use Rattle.recorder.specs.Mem.{Mem, memR, symbolNumber, entryOf, known}
+use Rattle.recorder.specs.Mem.{Mem, memR, namesIn, symbolNumber, entryOf, known, asWord, recordsIn}
 use Rattle.sheet.specs.declared.form.Shape.the-variants.{For, Next, While}
 use Rattle.sheet.specs.Form.{isAbsent}
 use Rattle.sheet.specs.Skip.{skipRepeat, skipList, skipFields, skipField, skipTimes, skipPair, skipItem}
@@ -63,9 +62,9 @@ below : (c : Bool) (a b : ℕ) → pick c (a % 16777216) (b % 16777216) < 167772
 below true a b = omega arith
 below false a b = omega arith
 
-small : (t b : List ℕ) (s : St) (x n g : ℕ) → symbolNumber t b s x n g < 16777216
+small : (t b : List ℕ) (s : List ℕ) (x n g : ℕ) → symbolNumber t b s x n g < 16777216
 unfolding symbolNumber
-small t b s x n g = below (ltb (entryOf t b s x n g) (known b s)) (getD b (4 * entryOf t b s x n g) 0) (s .names)
+small t b s x n g = below (ltb (entryOf t b s x n g) (known b s)) (getD b (4 * entryOf t b s x n g) 0) (namesIn s)
 
 pub sym-small : (t : List ℕ) (base : ℕ) (r : Range) (m m1 : Mem) (v : ℕ) (ty : Ty) → sym m1 v ty ≡ compileSym (memR t) t base r m → v < 16777216
 unfolding compileSym
@@ -121,7 +120,7 @@ at-next s t base left k at r n p q m m1 c h d = record {
 }
 
 -- WHILE
-pub while-of : (s t : List ℕ) (base left k : ℕ) (r : Range) (p q a : ℕ) (m m1 m2 : Mem) → a ≡ m .st .records → CompiledTyped s t base left p Real m m1 q
+pub while-of : (s t : List ℕ) (base left k : ℕ) (r : Range) (p q a : ℕ) (m m1 m2 : Mem) → a ≡ asWord (recordsIn (m .st)) → CompiledTyped s t base left p Real m m1 q
     → m2 ≡ memR t .emit m1 25 r a 4294967295 0 → Body s t base left While k r p m m2 q
 unfolding stmtNode compileStmt compileWhile skipFields skipField skipTimes skipPair skipItem
 while-of s t base left k r p q a m m1 m2 ha x e = record { place = x .place; result = λ child. rw (e, x .result, ha) }

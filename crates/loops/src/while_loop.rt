@@ -1,5 +1,4 @@
 // WHILE; its end is set when the list is closed up.
-use expressions::expr::Behind;
 use recorder::codegen::St;
 use recorder::word::Range;
 use rules::types::Type;
@@ -10,18 +9,18 @@ ghost use Rattle.expressions.specs.Body.{Body};
 
 // The condition is run again at each turn, so the loop's start is before it.
 pub fn compile_while(
-    sheet: &[u32],
-    text: &[u16],
+    sheet: &&[u32],
+    text: &&[u16],
     list: &mut [u32],
     notes: &mut [u32],
     book: &mut [u32],
-    st: St,
+    st: &mut St,
     base: u32,
     at: usize,
     left: usize,
     r: Range,
-) -> Behind
-    ensures { λ x. ⌜ ((k : ℕ) → Body (now (sheet .entry)) (now (text .entry)) base left Shape.While k r at (mem (now (list .entry)) (now (notes .entry)) (now (book .entry)) st) (mem (now (list .exit)) (now (notes .exit)) (now (book .exit)) (x .st)) (x .at)) ⌝ }
+) -> usize
+    ensures { λ x. ⌜ ((k : ℕ) → Body (now (now (sheet .entry))) (now (now (text .entry))) base left Shape.While k r at (mem (now (list .entry)) (now (notes .entry)) (now (book .entry)) (now (st .entry))) (mem (now (list .exit)) (now (notes .exit)) (now (book .exit)) (now (st .exit))) x) ⌝ }
 {
     let start = recorder::codegen::current_addr(st);
     let x = expressions::expr::compile_typed(
@@ -36,7 +35,6 @@ pub fn compile_while(
         left,
         Type::Real,
     );
-    let xs = x.st;
-    let s = recorder::codegen::emit_while(list, xs, r, start.0);
-    Behind { st: s, at: x.at }
+    recorder::codegen::emit_while(list, st, r, start.0);
+    x
 }

@@ -8,9 +8,8 @@ use lib.Dec.{eqb}
 use borrow.Author.Tests.{lt-ltb, le-ltb, ne-eqb}
 use native.Mathlib.Omega.{arith}
 use Rattle.recorder.specs.declared.word.Range.{Range}
-use Rattle.recorder.specs.declared.codegen.St.{St}
 use Rattle.recorder.specs.Word.{wordOf, rangeWord, rangeAt}
-use Rattle.recorder.specs.Mem.{Mem, mem, memR, putRec, putList, putSt, noteList, noteSt, symbolList, symbolSt, symbolNumber}
+use Rattle.recorder.specs.Mem.{Mem, mem, memR, putRec, putList, putSt, noteList, noteSt, symbolList, symbolSt, symbolNumber, lineIn}
 use Rattle.sheet.specs.Form.{isAbsent}
 use Rattle.sheet.specs.Tree.{optAt}
 use Rattle.rules.specs.declared.types.«Type».{«Type» as Ty}
@@ -27,13 +26,13 @@ use Rattle.nodes.specs.declared.node.OptRange.the-variants.{Given, Absen
 use Rattle.nodes.specs.Compiled.{sym, named, optOf}
 
 -- what a note, and a record, ensure
-abbrev pub Noted : ℕ → Range → ℕ → List ℕ → List ℕ → St → St → Type 0
-Noted k r v n n′ s s′ = (n′ ≡ noteList n s (wordOf k (s .line)) (rangeWord r) v) × (s′ ≡ noteSt n s)
+abbrev pub Noted : ℕ → Range → ℕ → List ℕ → List ℕ → List ℕ → List ℕ → Type 0
+Noted k r v n n′ s s′ = (n′ ≡ noteList n s (wordOf k (lineIn s)) (rangeWord r) v) × (s′ ≡ noteSt n s)
 
-abbrev pub Put : ℕ → Range → ℕ → ℕ → ℕ → List ℕ → List ℕ → St → St → Type 0
+abbrev pub Put : ℕ → Range → ℕ → ℕ → ℕ → List ℕ → List ℕ → List ℕ → List ℕ → Type 0
 Put k r a b c l l′ s s′ = (l′ ≡ putRec l s k r a b c) × (s′ ≡ putSt l s)
 
-abbrev pub Symbol : List ℕ → ℕ → ℕ → ℕ → List ℕ → List ℕ → St → St → ℕ → Type 0
+abbrev pub Symbol : List ℕ → ℕ → ℕ → ℕ → List ℕ → List ℕ → List ℕ → List ℕ → ℕ → Type 0
 Symbol t x n g b b′ s s′ v = (b′ ≡ symbolList t b s x n g) × (s′ ≡ symbolSt t b s x n g) × (v ≡ symbolNumber t b s x n g)
 
 -- options
@@ -44,25 +43,25 @@ pub opt-given : (s : List ℕ) (at : ℕ) (k : Bool) (r : Range) → k ≡ isAbs
 opt-given s at k r e h f = let g : isAbsent s at ≡ false = inv e ∙ h in simp (g, f)
 
 -- kinds
-pub check-fits : (want ty : Ty) (r : Range) (n : List ℕ) (s : St) (b : Bool) → b ≡ matchesType ty want → b ≡ true
+pub check-fits : (want ty : Ty) (r : Range) (n : List ℕ) (s : List ℕ) (b : Bool) → b ≡ matchesType ty want → b ≡ true
     → (t l k : List ℕ) (base : ℕ) → mem l n k s ≡ checkType (memR t) t base want r ty (mem l n k s)
 unfolding checkType
 check-fits want ty r n s b e h t l k base = let f : matchesType ty want ≡ true = inv e ∙ h in rw f
 
-pub check-note : (want ty : Ty) (r : Range) (n n′ : List ℕ) (s s′ : St) (b : Bool) → b ≡ matchesType ty want → b ≡ false → Noted 4 r 1 n n′ s s′
+pub check-note : (want ty : Ty) (r : Range) (n n′ : List ℕ) (s s′ : List ℕ) (b : Bool) → b ≡ matchesType ty want → b ≡ false → Noted 4 r 1 n n′ s s′
     → (t l k : List ℕ) (base : ℕ) → mem l n′ k s′ ≡ checkType (memR t) t base want r ty (mem l n k s)
 unfolding checkType
 check-note want ty r n n′ s s′ b e h p t l k base = let f : matchesType ty want ≡ false = inv e ∙ h in rw (f, p .0, p .1)
 
 -- names
-pub blank-lost : (n n′ : List ℕ) (r : Range) (s s′ : St) (lost : ℕ) → 0 < lost → Noted 10 r 2 n n′ s s′
+pub blank-lost : (n n′ : List ℕ) (r : Range) (s s′ : List ℕ) (lost : ℕ) → 0 < lost → Noted 10 r 2 n n′ s s′
     → (t l b : List ℕ) (base : ℕ) → mem l n′ b s′ ≡ blankNote (memR t) t base lost r (mem l n b s)
 blank-lost n n′ r s s′ lost h p t l b base = rw (lt-ltb 0 lost h, p .0, p .1)
 
-pub blank-none : (n : List ℕ) (r : Range) (s : St) (lost : ℕ) → lost ≤ 0 → (t l b : List ℕ) (base : ℕ) → mem l n b s ≡ blankNote (memR t) t base lost r (mem l n b s)
+pub blank-none : (n : List ℕ) (r : Range) (s : List ℕ) (lost : ℕ) → lost ≤ 0 → (t l b : List ℕ) (base : ℕ) → mem l n b s ≡ blankNote (memR t) t base lost r (mem l n b s)
 blank-none n r s lost h t l b base = rw (le-ltb 0 lost h)
 
-pub sym-made : (t n n′ b b′ : List ℕ) (base : ℕ) (r : Range) (s s1 s2 : St) (x : Name) (v : ℕ) → x ≡ readName t base r
+pub sym-made : (t n n′ b b′ : List ℕ) (base : ℕ) (r : Range) (s s1 s2 : List ℕ) (x : Name) (v : ℕ) → x ≡ readName t base r
     → ((t l b : List ℕ) (base : ℕ) → mem l n′ b s1 ≡ blankNote (memR t) t base (x .lost) r (mem l n b s))
     → Symbol t (x .start) (x .len) (x .sigil) b b′ s1 s2 v → (l : List ℕ) → sym (mem l n′ b′ s2) v (x .ty) ≡ compileSym (memR t) t base r (mem l n b s)
 unfolding compileSym
@@ -70,19 +69,19 @@ sym-made t n n′ b b′ base r s s1 s2 x v e p q l =
     rw (← e, q .0, q .1, q .2) (ap (λ (m : Mem). symOf (memR t) t base (x .ty) (memR t .symbol m (x .start) (x .len) (x .sigil))) (p t l b base))
 
 -- what a call of the recorder ensures, of the whole memory
-pub put-at : (l l′ n b : List ℕ) (s s′ : St) (h w x y z : ℕ) → (l′ ≡ putList l s h w x y z) × (s′ ≡ putSt l s) → mem l′ n b s′ ≡ mem (putList l s h w x y z) n b (putSt l s)
+pub put-at : (l l′ n b : List ℕ) (s s′ : List ℕ) (h w x y z : ℕ) → (l′ ≡ putList l s h w x y z) × (s′ ≡ putSt l s) → mem l′ n b s′ ≡ mem (putList l s h w x y z) n b (putSt l s)
 put-at l l′ n b s s′ h w x y z e = rw (e .0, e .1)
 
-pub note-at : (l n n′ b : List ℕ) (s s′ : St) (h w v : ℕ) → (n′ ≡ noteList n s h w v) × (s′ ≡ noteSt n s) → mem l n′ b s′ ≡ mem l (noteList n s h w v) b (noteSt n s)
+pub note-at : (l n n′ b : List ℕ) (s s′ : List ℕ) (h w v : ℕ) → (n′ ≡ noteList n s h w v) × (s′ ≡ noteSt n s) → mem l n′ b s′ ≡ mem l (noteList n s h w v) b (noteSt n s)
 note-at l n n′ b s s′ h w v e = rw (e .0, e .1)
 
 -- names that must be real
-pub real-fits : (ty : Ty) (r : Range) (n : List ℕ) (s : St) (b : Bool) → b ≡ exactMatches ty Real → b ≡ true
+pub real-fits : (ty : Ty) (r : Range) (n : List ℕ) (s : List ℕ) (b : Bool) → b ≡ exactMatches ty Real → b ≡ true
     → (t l k : List ℕ) (base : ℕ) → mem l n k s ≡ checkReal (memR t) t base r ty (mem l n k s)
 unfolding checkReal
 real-fits ty r n s b e h t l k base = let f : exactMatches ty Real ≡ true = inv e ∙ h in rw f
 
-pub real-note : (ty : Ty) (r : Range) (n n′ : List ℕ) (s s′ : St) (b : Bool) → b ≡ exactMatches ty Real → b ≡ false → Noted 5 r 1 n n′ s s′
+pub real-note : (ty : Ty) (r : Range) (n n′ : List ℕ) (s s′ : List ℕ) (b : Bool) → b ≡ exactMatches ty Real → b ≡ false → Noted 5 r 1 n n′ s s′
     → (t l k : List ℕ) (base : ℕ) → mem l n′ k s′ ≡ checkReal (memR t) t base r ty (mem l n k s)
 unfolding checkReal
 real-note ty r n n′ s s′ b e h p t l k base = let f : exactMatches ty Real ≡ false = inv e ∙ h in rw (f, p .0, p .1)

@@ -1,5 +1,4 @@
 // What compile_expr of compiler.rs does for one node, without its children.
-use recorder::codegen::Named;
 use recorder::codegen::St;
 use recorder::word::Range;
 use rules::types::Type;
@@ -19,15 +18,8 @@ pub enum OptRange {
     Absent,
 }
 
-// A state and a kind.
-pub struct Typed {
-    pub st: St,
-    pub ty: Type,
-}
-
-// A state, a symbol's number and its kind.
+// A symbol's number and its kind.
 pub struct Sym {
-    pub st: St,
     pub number: u32,
     pub ty: Type,
 }
@@ -43,24 +35,21 @@ pub fn opt_range_at(sheet: &[u32], at: usize) -> OptRange
 }
 
 // A note of class 4 where the kind is not the one wanted.
-pub fn check_type(notes: &mut [u32], st: St, want: Type, r: Range, ty: Type) -> St
-    ensures { λ x. ⌜ ((t l b : List ℕ) (base : ℕ) → mem l (now (notes .exit)) b x ≡ checkType (memR t) t base want r ty (mem l (now (notes .entry)) b st)) ⌝ }
+pub fn check_type(notes: &mut [u32], st: &mut St, want: Type, r: Range, ty: Type)
+    ensures { λ _. ⌜ ((t l b : List ℕ) (base : ℕ) → mem l (now (notes .exit)) b (now (st .exit)) ≡ checkType (memR t) t base want r ty (mem l (now (notes .entry)) b (now (st .entry)))) ⌝ }
 {
     if rules::types::matches(ty, want) {
-        st
-    } else {
-        recorder::codegen::note(notes, st, 4, r, 1)
+        return;
     }
+    recorder::codegen::note(notes, st, 4, r, 1)
 }
 
 // A warning where units of a name are lost.
-fn blank_note(notes: &mut [u32], st: St, lost: u32, r: Range) -> St
-    ensures { λ x. ⌜ ((t l b : List ℕ) (base : ℕ) → mem l (now (notes .exit)) b x ≡ blankNote (memR t) t base lost r (mem l (now (notes .entry)) b st)) ⌝ }
+fn blank_note(notes: &mut [u32], st: &mut St, lost: u32, r: Range)
+    ensures { λ _. ⌜ ((t l b : List ℕ) (base : ℕ) → mem l (now (notes .exit)) b (now (st .exit)) ≡ blankNote (memR t) t base lost r (mem l (now (notes .entry)) b (now (st .entry)))) ⌝ }
 {
     if 0 < lost {
         recorder::codegen::note(notes, st, 10, r, 2)
-    } else {
-        st
     }
 }
 
@@ -69,33 +58,27 @@ pub fn compile_sym(
     text: &[u16],
     notes: &mut [u32],
     book: &mut [u32],
-    st: St,
+    st: &mut St,
     base: u32,
     r: Range,
 ) -> Sym
-    ensures { λ x. ⌜ ((l : List ℕ) → sym (mem l (now (notes .exit)) (now (book .exit)) (x .st)) (x .number) (x .ty) ≡ compileSym (memR (now (text .entry))) (now (text .entry)) base r (mem l (now (notes .entry)) (now (book .entry)) st)) ⌝ }
+    ensures { λ x. ⌜ ((l : List ℕ) → sym (mem l (now (notes .exit)) (now (book .exit)) (now (st .exit))) (x .number) (x .ty) ≡ compileSym (memR (now (text .entry))) (now (text .entry)) base r (mem l (now (notes .entry)) (now (book .entry)) (now (st .entry)))) ⌝ }
 {
     let n = rules::name::read_name(text, base, r);
     let ty = n.ty;
-    let s = blank_note(notes, st, n.lost, r);
-    let y = recorder::codegen::make_symbol(text, book, s, n.start, n.len, n.sigil);
-    let ys = y.st;
-    Sym {
-        st: ys,
-        number: y.number,
-        ty,
-    }
+    blank_note(notes, st, n.lost, r);
+    let y = recorder::codegen::make_symbol(text, book, st, n.start, n.len, n.sigil);
+    Sym { number: y, ty }
 }
 
 // A note of class 5 where a name's kind is not exactly real.
-fn check_real(notes: &mut [u32], st: St, r: Range, ty: Type) -> St
-    ensures { λ x. ⌜ ((t l b : List ℕ) (base : ℕ) → mem l (now (notes .exit)) b x ≡ checkReal (memR t) t base r ty (mem l (now (notes .entry)) b st)) ⌝ }
+fn check_real(notes: &mut [u32], st: &mut St, r: Range, ty: Type)
+    ensures { λ _. ⌜ ((t l b : List ℕ) (base : ℕ) → mem l (now (notes .exit)) b (now (st .exit)) ≡ checkReal (memR t) t base r ty (mem l (now (notes .entry)) b (now (st .entry)))) ⌝ }
 {
     if rules::types::exact_matches(ty, Type::Real) {
-        st
-    } else {
-        recorder::codegen::note(notes, st, 5, r, 1)
+        return;
     }
+    recorder::codegen::note(notes, st, 5, r, 1)
 }
 
 // A name that must be exactly real: a function, a parameter, FOR's counter.
@@ -103,20 +86,16 @@ pub fn real_sym(
     text: &[u16],
     notes: &mut [u32],
     book: &mut [u32],
-    st: St,
+    st: &mut St,
     base: u32,
     r: Range,
-) -> Named
-    ensures { λ x. ⌜ ((l : List ℕ) → named (mem l (now (notes .exit)) (now (book .exit)) (x .st)) (x .number) ≡ realSym (memR (now (text .entry))) (now (text .entry)) base r (mem l (now (notes .entry)) (now (book .entry)) st)) ⌝ }
+) -> u32
+    ensures { λ x. ⌜ ((l : List ℕ) → named (mem l (now (notes .exit)) (now (book .exit)) (now (st .exit))) x ≡ realSym (memR (now (text .entry))) (now (text .entry)) base r (mem l (now (notes .entry)) (now (book .entry)) (now (st .entry)))) ⌝ }
 {
     let y = compile_sym(text, notes, book, st, base, r);
-    let ys = y.st;
     let ty = y.ty;
-    let s = check_real(notes, ys, r, ty);
-    Named {
-        st: s,
-        number: y.number,
-    }
+    check_real(notes, st, r, ty);
+    y.number
 }
 
 // The same where the name may be absent.
@@ -124,15 +103,15 @@ pub fn opt_real_sym(
     text: &[u16],
     notes: &mut [u32],
     book: &mut [u32],
-    st: St,
+    st: &mut St,
     base: u32,
     o: OptRange,
-) -> Named
-    ensures { λ x. ⌜ ((l : List ℕ) → named (mem l (now (notes .exit)) (now (book .exit)) (x .st)) (x .number) ≡ optRealSym (memR (now (text .entry))) (now (text .entry)) base (optOf o) (mem l (now (notes .entry)) (now (book .entry)) st)) ⌝ }
+) -> u32
+    ensures { λ x. ⌜ ((l : List ℕ) → named (mem l (now (notes .exit)) (now (book .exit)) (now (st .exit))) x ≡ optRealSym (memR (now (text .entry))) (now (text .entry)) base (optOf o) (mem l (now (notes .entry)) (now (book .entry)) (now (st .entry)))) ⌝ }
 {
     match o {
         OptRange::Given(r) => real_sym(text, notes, book, st, base, r),
-        OptRange::Absent => Named { st, number: 0 },
+        OptRange::Absent => 0,
     }
 }
 
@@ -142,17 +121,16 @@ pub fn var_node(
     list: &mut [u32],
     notes: &mut [u32],
     book: &mut [u32],
-    st: St,
+    st: &mut St,
     base: u32,
     r: Range,
-) -> Typed
-    ensures { λ x. ⌜ out (mem (now (list .exit)) (now (notes .exit)) (now (book .exit)) (x .st)) (x .ty) ≡ varNode (memR (now (text .entry))) (now (text .entry)) base r (mem (now (list .entry)) (now (notes .entry)) (now (book .entry)) st) ⌝ }
+) -> Type
+    ensures { λ x. ⌜ out (mem (now (list .exit)) (now (notes .exit)) (now (book .exit)) (now (st .exit))) x ≡ varNode (memR (now (text .entry))) (now (text .entry)) base r (mem (now (list .entry)) (now (notes .entry)) (now (book .entry)) (now (st .entry))) ⌝ }
 {
     let y = compile_sym(text, notes, book, st, base, r);
-    let ys = y.st;
     let ty = y.ty;
-    let s = recorder::codegen::emit_var(list, ys, r, y.number);
-    Typed { st: s, ty }
+    recorder::codegen::emit_var(list, st, r, y.number);
+    ty
 }
 
 // A variable to store to: call 7.
@@ -161,17 +139,16 @@ pub fn var_place(
     list: &mut [u32],
     notes: &mut [u32],
     book: &mut [u32],
-    st: St,
+    st: &mut St,
     base: u32,
     r: Range,
-) -> Typed
-    ensures { λ x. ⌜ out (mem (now (list .exit)) (now (notes .exit)) (now (book .exit)) (x .st)) (x .ty) ≡ varPlace (memR (now (text .entry))) (now (text .entry)) base r (mem (now (list .entry)) (now (notes .entry)) (now (book .entry)) st) ⌝ }
+) -> Type
+    ensures { λ x. ⌜ out (mem (now (list .exit)) (now (notes .exit)) (now (book .exit)) (now (st .exit))) x ≡ varPlace (memR (now (text .entry))) (now (text .entry)) base r (mem (now (list .entry)) (now (notes .entry)) (now (book .entry)) (now (st .entry))) ⌝ }
 {
     let y = compile_sym(text, notes, book, st, base, r);
-    let ys = y.st;
     let ty = y.ty;
-    let s = recorder::codegen::emit_var_lvalue(list, ys, r, y.number);
-    Typed { st: s, ty }
+    recorder::codegen::emit_var_lvalue(list, st, r, y.number);
+    ty
 }
 
 fn ends_in_quote(text: &[u16], base: u32, r: Range) -> bool
@@ -208,25 +185,23 @@ pub fn text_node(
     text: &[u16],
     list: &mut [u32],
     notes: &mut [u32],
-    st: St,
+    st: &mut St,
     base: u32,
     r: Range,
-) -> St
-    ensures { λ x. ⌜ ((b : List ℕ) → mem (now (list .exit)) (now (notes .exit)) b x ≡ textNode (memR (now (text .entry))) (now (text .entry)) base r (mem (now (list .entry)) (now (notes .entry)) b st)) ⌝ }
+)
+    ensures { λ _. ⌜ ((b : List ℕ) → mem (now (list .exit)) (now (notes .exit)) b (now (st .exit)) ≡ textNode (memR (now (text .entry))) (now (text .entry)) base r (mem (now (list .entry)) (now (notes .entry)) b (now (st .entry)))) ⌝ }
 {
     let n = quoted_length(text, base, r);
     let a = quoted_start(base, r);
-    let s = recorder::codegen::emit_string(list, st, r, a, n);
+    recorder::codegen::emit_string(list, st, r, a, n);
     if 255 < n {
-        recorder::codegen::note(notes, s, 8, r, 1)
-    } else {
-        s
+        recorder::codegen::note(notes, st, 8, r, 1)
     }
 }
 
 // A number: call 3, or a note where it is too large.
-pub fn number_node(list: &mut [u32], notes: &mut [u32], st: St, r: Range, e: u32, m: u32) -> St
-    ensures { λ x. ⌜ ((t b : List ℕ) (base : ℕ) → mem (now (list .exit)) (now (notes .exit)) b x ≡ numberNode (memR t) t base r e m (mem (now (list .entry)) (now (notes .entry)) b st)) ⌝ }
+pub fn number_node(list: &mut [u32], notes: &mut [u32], st: &mut St, r: Range, e: u32, m: u32)
+    ensures { λ _. ⌜ ((t b : List ℕ) (base : ℕ) → mem (now (list .exit)) (now (notes .exit)) b (now (st .exit)) ≡ numberNode (memR t) t base r e m (mem (now (list .entry)) (now (notes .entry)) b (now (st .entry)))) ⌝ }
 {
     if e == 256 {
         recorder::codegen::note(notes, st, 9, r, 1)
@@ -236,54 +211,55 @@ pub fn number_node(list: &mut [u32], notes: &mut [u32], st: St, r: Range, e: u32
 }
 
 // TAB and SPC stand in PRINT alone.
-fn tab_note(notes: &mut [u32], st: St, k: u32, fr: Range) -> St
-    ensures { λ x. ⌜ ((t l b : List ℕ) (base : ℕ) → mem l (now (notes .exit)) b x ≡ tabNote (memR t) t base k fr (mem l (now (notes .entry)) b st)) ⌝ }
+fn tab_note(notes: &mut [u32], st: &mut St, k: u32, fr: Range)
+    ensures { λ _. ⌜ ((t l b : List ℕ) (base : ℕ) → mem l (now (notes .exit)) b (now (st .exit)) ≡ tabNote (memR t) t base k fr (mem l (now (notes .entry)) b (now (st .entry)))) ⌝ }
 {
     match k {
         27 => recorder::codegen::note(notes, st, 12, fr, 1),
         28 => recorder::codegen::note(notes, st, 12, fr, 1),
-        _ => st,
+        _ => {}
     }
 }
 
 // Too few arguments, or too many.
-fn arity_notes(notes: &mut [u32], st: St, k: u32, n: u32, r: Range) -> St
-    ensures { λ x. ⌜ ((t l b : List ℕ) (base : ℕ) → mem l (now (notes .exit)) b x ≡ arityNotes (memR t) t base (signatureOf k) n r (mem l (now (notes .entry)) b st)) ⌝ }
+fn arity_notes(notes: &mut [u32], st: &mut St, k: u32, n: u32, r: Range)
+    ensures { λ _. ⌜ ((t l b : List ℕ) (base : ℕ) → mem l (now (notes .exit)) b (now (st .exit)) ≡ arityNotes (memR t) t base (signatureOf k) n r (mem l (now (notes .entry)) b (now (st .entry)))) ⌝ }
 {
     let g = rules::tables::sig_of(k);
     if n < rules::tables::min_args(g) {
-        return recorder::codegen::note(notes, st, 6, r, 1);
+        recorder::codegen::note(notes, st, 6, r, 1);
+        return;
     }
     if rules::tables::max_args(g) < n {
-        return recorder::codegen::note(notes, st, 7, r, 1);
+        recorder::codegen::note(notes, st, 7, r, 1);
+        return;
     }
-    st
 }
 
 // What comes before a function's arguments.
-pub fn func_notes(notes: &mut [u32], st: St, k: u32, n: u32, fr: Range, r: Range) -> St
-    ensures { λ x. ⌜ ((t l b : List ℕ) (base : ℕ) → mem l (now (notes .exit)) b x ≡ funcNotes (memR t) t base k n fr r (mem l (now (notes .entry)) b st)) ⌝ }
+pub fn func_notes(notes: &mut [u32], st: &mut St, k: u32, n: u32, fr: Range, r: Range)
+    ensures { λ _. ⌜ ((t l b : List ℕ) (base : ℕ) → mem l (now (notes .exit)) b (now (st .exit)) ≡ funcNotes (memR t) t base k n fr r (mem l (now (notes .entry)) b (now (st .entry)))) ⌝ }
 {
-    let s = tab_note(notes, st, k, fr);
-    arity_notes(notes, s, k, n, r)
+    tab_note(notes, st, k, fr);
+    arity_notes(notes, st, k, n, r)
 }
 
 // A function's call: call 11.
-pub fn func_node(list: &mut [u32], st: St, k: u32, n: u32, r: Range) -> Typed
-    ensures { λ x. ⌜ ((t o b : List ℕ) (base : ℕ) → out (mem (now (list .exit)) o b (x .st)) (x .ty) ≡ funcNode (memR t) t base k n r (mem (now (list .entry)) o b st)) ⌝ }
+pub fn func_node(list: &mut [u32], st: &mut St, k: u32, n: u32, r: Range) -> Type
+    ensures { λ x. ⌜ ((t o b : List ℕ) (base : ℕ) → out (mem (now (list .exit)) o b (now (st .exit))) x ≡ funcNode (memR t) t base k n r (mem (now (list .entry)) o b (now (st .entry)))) ⌝ }
 {
-    let s = recorder::codegen::emit_sys_func_call(list, st, r, k, n);
+    recorder::codegen::emit_sys_func_call(list, st, r, k, n);
     let ty = rules::tables::result_type(rules::tables::sig_of(k));
-    Typed { st: s, ty }
+    ty
 }
 
 // A user function's call behind its argument: call 12.
-pub fn user_call(list: &mut [u32], st: St, o: OptRange, r: Range, n: u32) -> St
-    ensures { λ x. ⌜ ((t k b : List ℕ) (base : ℕ) → mem (now (list .exit)) k b x ≡ userCall (memR t) t base (optOf o) r n (mem (now (list .entry)) k b st)) ⌝ }
+pub fn user_call(list: &mut [u32], st: &mut St, o: OptRange, r: Range, n: u32)
+    ensures { λ _. ⌜ ((t k b : List ℕ) (base : ℕ) → mem (now (list .exit)) k b (now (st .exit)) ≡ userCall (memR t) t base (optOf o) r n (mem (now (list .entry)) k b (now (st .entry)))) ⌝ }
 {
     match o {
         OptRange::Given(_) => recorder::codegen::emit_user_func_call(list, st, r, n),
-        OptRange::Absent => st,
+        OptRange::Absent => {}
     }
 }
 
@@ -303,8 +279,8 @@ fn unlike_type(k: u32) -> Type
     if k == 6 { Type::Error } else { Type::Real }
 }
 
-fn like_call(list: &mut [u32], st: St, k: u32, r: Range, x: Type) -> St
-    ensures { λ z. ⌜ ((t o b : List ℕ) (base : ℕ) → mem (now (list .exit)) o b z ≡ likeCall (memR t) t base k r x (mem (now (list .entry)) o b st)) ⌝ }
+fn like_call(list: &mut [u32], st: &mut St, k: u32, r: Range, x: Type)
+    ensures { λ _. ⌜ ((t o b : List ℕ) (base : ℕ) → mem (now (list .exit)) o b (now (st .exit)) ≡ likeCall (memR t) t base k r x (mem (now (list .entry)) o b (now (st .entry)))) ⌝ }
 {
     match x {
         Type::String => recorder::codegen::emit_str_binary_expr(list, st, r, k),
@@ -318,23 +294,23 @@ fn like_call(list: &mut [u32], st: St, k: u32, r: Range, x: Type) -> St
 fn like_node(
     list: &mut [u32],
     notes: &mut [u32],
-    st: St,
+    st: &mut St,
     k: u32,
     r: Range,
     o: Range,
     x: Type,
     y: Type,
-) -> Typed
-    ensures { λ z. ⌜ ((t b : List ℕ) (base : ℕ) → out (mem (now (list .exit)) (now (notes .exit)) b (z .st)) (z .ty) ≡ likeNode (memR t) t base k r o x y (mem (now (list .entry)) (now (notes .entry)) b st)) ⌝ }
+) -> Type
+    ensures { λ z. ⌜ ((t b : List ℕ) (base : ℕ) → out (mem (now (list .exit)) (now (notes .exit)) b (now (st .exit))) z ≡ likeNode (memR t) t base k r o x y (mem (now (list .entry)) (now (notes .entry)) b (now (st .entry)))) ⌝ }
 {
     if rules::types::matches(x, y) {
-        let s = like_call(list, st, k, r, x);
+        like_call(list, st, k, r, x);
         let ty = like_type(k, x);
-        Typed { st: s, ty }
+        ty
     } else {
-        let s = recorder::codegen::note(notes, st, 4, o, 1);
+        recorder::codegen::note(notes, st, 4, o, 1);
         let ty = unlike_type(k);
-        Typed { st: s, ty }
+        ty
     }
 }
 
@@ -342,30 +318,27 @@ fn like_node(
 fn arith_node(
     list: &mut [u32],
     notes: &mut [u32],
-    st: St,
+    st: &mut St,
     k: u32,
     r: Range,
     ar: Range,
     br: Range,
     x: Type,
     y: Type,
-) -> Typed
-    ensures { λ z. ⌜ ((t b : List ℕ) (base : ℕ) → out (mem (now (list .exit)) (now (notes .exit)) b (z .st)) (z .ty) ≡ arithNode (memR t) t base k r ar br x y (mem (now (list .entry)) (now (notes .entry)) b st)) ⌝ }
+) -> Type
+    ensures { λ z. ⌜ ((t b : List ℕ) (base : ℕ) → out (mem (now (list .exit)) (now (notes .exit)) b (now (st .exit))) z ≡ arithNode (memR t) t base k r ar br x y (mem (now (list .entry)) (now (notes .entry)) b (now (st .entry)))) ⌝ }
 {
-    let s1 = check_type(notes, st, Type::Real, ar, x);
-    let s2 = check_type(notes, s1, Type::Real, br, y);
-    let s = recorder::codegen::emit_num_binary_expr(list, s2, r, k);
-    Typed {
-        st: s,
-        ty: Type::Real,
-    }
+    check_type(notes, st, Type::Real, ar, x);
+    check_type(notes, st, Type::Real, br, y);
+    recorder::codegen::emit_num_binary_expr(list, st, r, k);
+    Type::Real
 }
 
 // compile_binary_expr behind its two sides.
 pub fn binary_node(
     list: &mut [u32],
     notes: &mut [u32],
-    st: St,
+    st: &mut St,
     k: u32,
     r: Range,
     ar: Range,
@@ -373,8 +346,8 @@ pub fn binary_node(
     br: Range,
     x: Type,
     y: Type,
-) -> Typed
-    ensures { λ z. ⌜ ((t b : List ℕ) (base : ℕ) → out (mem (now (list .exit)) (now (notes .exit)) b (z .st)) (z .ty) ≡ binaryNode (memR t) t base k r ar o br x y (mem (now (list .entry)) (now (notes .entry)) b st)) ⌝ }
+) -> Type
+    ensures { λ z. ⌜ ((t b : List ℕ) (base : ℕ) → out (mem (now (list .exit)) (now (notes .exit)) b (now (st .exit))) z ≡ binaryNode (memR t) t base k r ar o br x y (mem (now (list .entry)) (now (notes .entry)) b (now (st .entry)))) ⌝ }
 {
     if k < 7 {
         like_node(list, notes, st, k, r, o, x, y)
@@ -386,20 +359,17 @@ pub fn binary_node(
 pub fn unary_node(
     list: &mut [u32],
     notes: &mut [u32],
-    st: St,
+    st: &mut St,
     k: u32,
     r: Range,
     ar: Range,
     x: Type,
-) -> Typed
-    ensures { λ z. ⌜ ((t b : List ℕ) (base : ℕ) → out (mem (now (list .exit)) (now (notes .exit)) b (z .st)) (z .ty) ≡ unaryNode (memR t) t base k r ar x (mem (now (list .entry)) (now (notes .entry)) b st)) ⌝ }
+) -> Type
+    ensures { λ z. ⌜ ((t b : List ℕ) (base : ℕ) → out (mem (now (list .exit)) (now (notes .exit)) b (now (st .exit))) z ≡ unaryNode (memR t) t base k r ar x (mem (now (list .entry)) (now (notes .entry)) b (now (st .entry)))) ⌝ }
 {
-    let s1 = check_type(notes, st, Type::Real, ar, x);
-    let s = recorder::codegen::emit_unary_expr(list, s1, r, k);
-    Typed {
-        st: s,
-        ty: Type::Real,
-    }
+    check_type(notes, st, Type::Real, ar, x);
+    recorder::codegen::emit_unary_expr(list, st, r, k);
+    Type::Real
 }
 
 // An array's element behind its subscripts: call 6.
@@ -408,26 +378,22 @@ pub fn index_node(
     list: &mut [u32],
     notes: &mut [u32],
     book: &mut [u32],
-    st: St,
+    st: &mut St,
     base: u32,
     o: OptRange,
     r: Range,
     n: u32,
-) -> Typed
-    ensures { λ x. ⌜ out (mem (now (list .exit)) (now (notes .exit)) (now (book .exit)) (x .st)) (x .ty) ≡ indexNode (memR (now (text .entry))) (now (text .entry)) base (optOf o) r n (mem (now (list .entry)) (now (notes .entry)) (now (book .entry)) st) ⌝ }
+) -> Type
+    ensures { λ x. ⌜ out (mem (now (list .exit)) (now (notes .exit)) (now (book .exit)) (now (st .exit))) x ≡ indexNode (memR (now (text .entry))) (now (text .entry)) base (optOf o) r n (mem (now (list .entry)) (now (notes .entry)) (now (book .entry)) (now (st .entry))) ⌝ }
 {
     match o {
         OptRange::Given(nr) => {
             let y = compile_sym(text, notes, book, st, base, nr);
-            let ys = y.st;
             let ty = y.ty;
-            let s = recorder::codegen::emit_index(list, ys, r, y.number, n);
-            Typed { st: s, ty }
+            recorder::codegen::emit_index(list, st, r, y.number, n);
+            ty
         }
-        OptRange::Absent => Typed {
-            st,
-            ty: Type::Error,
-        },
+        OptRange::Absent => Type::Error,
     }
 }
 
@@ -437,24 +403,20 @@ pub fn index_place(
     list: &mut [u32],
     notes: &mut [u32],
     book: &mut [u32],
-    st: St,
+    st: &mut St,
     base: u32,
     o: OptRange,
     n: u32,
-) -> Typed
-    ensures { λ x. ⌜ out (mem (now (list .exit)) (now (notes .exit)) (now (book .exit)) (x .st)) (x .ty) ≡ indexPlace (memR (now (text .entry))) (now (text .entry)) base (optOf o) n (mem (now (list .entry)) (now (notes .entry)) (now (book .entry)) st) ⌝ }
+) -> Type
+    ensures { λ x. ⌜ out (mem (now (list .exit)) (now (notes .exit)) (now (book .exit)) (now (st .exit))) x ≡ indexPlace (memR (now (text .entry))) (now (text .entry)) base (optOf o) n (mem (now (list .entry)) (now (notes .entry)) (now (book .entry)) (now (st .entry))) ⌝ }
 {
     match o {
         OptRange::Given(nr) => {
             let y = compile_sym(text, notes, book, st, base, nr);
-            let ys = y.st;
             let ty = y.ty;
-            let s = recorder::codegen::emit_index_lvalue(list, ys, nr, y.number, n);
-            Typed { st: s, ty }
+            recorder::codegen::emit_index_lvalue(list, st, nr, y.number, n);
+            ty
         }
-        OptRange::Absent => Typed {
-            st,
-            ty: Type::Error,
-        },
+        OptRange::Absent => Type::Error,
     }
 }

@@ -1,5 +1,4 @@
 // The draw statements: compile_draw_stmt of compiler.rs.
-use expressions::expr::Behind;
 use recorder::codegen::St;
 use recorder::word::Range;
 use rules::tables::Wants;
@@ -15,44 +14,46 @@ ghost use Rattle.expressions.specs.Body.{Body};
 
 // Too few arguments, too many, or the call.
 fn draw_node(
-    sheet: &[u32],
+    sheet: &&[u32],
     list: &mut [u32],
     notes: &mut [u32],
-    st: St,
+    st: &mut St,
     at: usize,
     n: u32,
     left: usize,
     k: u32,
     r: Range,
-) -> St
-    ensures { λ x. ⌜ ((t b : List ℕ) (base : ℕ) → mem (now (list .exit)) (now (notes .exit)) b x ≡ drawNode (memR t) t base k r (argsAt (now (sheet .entry)) left n at) (mem (now (list .entry)) (now (notes .entry)) b st)) ⌝ }
+)
+    ensures { λ _. ⌜ ((t b : List ℕ) (base : ℕ) → mem (now (list .exit)) (now (notes .exit)) b (now (st .exit)) ≡ drawNode (memR t) t base k r (argsAt (now (now (sheet .entry))) left n at) (mem (now (list .entry)) (now (notes .entry)) b (now (st .entry)))) ⌝ }
 {
     if n < rules::tables::draw_min(k) {
-        return recorder::codegen::note(notes, st, 6, r, 1);
+        recorder::codegen::note(notes, st, 6, r, 1);
+        return;
     }
     let max = rules::tables::draw_max(k);
     if max < n {
-        return expressions::surplus::surplus_notes(sheet, notes, st, at, n, max, left);
+        expressions::surplus::surplus_notes(sheet, notes, st, at, n, max, left);
+        return;
     }
     recorder::codegen::emit_op(list, st, r, k, n)
 }
 
 pub fn compile_draw_stmt(
-    sheet: &[u32],
-    text: &[u16],
+    sheet: &&[u32],
+    text: &&[u16],
     list: &mut [u32],
     notes: &mut [u32],
     book: &mut [u32],
-    st: St,
+    st: &mut St,
     base: u32,
     at: usize,
     left: usize,
     k: u32,
     r: Range,
-) -> Behind
-    ensures { λ x. ⌜ Body (now (sheet .entry)) (now (text .entry)) base left Shape.Draw k r at (mem (now (list .entry)) (now (notes .entry)) (now (book .entry)) st) (mem (now (list .exit)) (now (notes .exit)) (now (book .exit)) (x .st)) (x .at) ⌝ }
+) -> usize
+    ensures { λ x. ⌜ Body (now (now (sheet .entry))) (now (now (text .entry))) base left Shape.Draw k r at (mem (now (list .entry)) (now (notes .entry)) (now (book .entry)) (now (st .entry))) (mem (now (list .exit)) (now (notes .exit)) (now (book .exit)) (now (st .exit))) x ⌝ }
 {
-    let c = expressions::expr::read_payload(sheet, at);
+    let c = expressions::expr::read_payload(*sheet, at);
     let x = expressions::expr::compile_args(
         sheet,
         text,
@@ -66,7 +67,6 @@ pub fn compile_draw_stmt(
         Wants::Draw(k),
         left,
     );
-    let xs = x.st;
-    let s = draw_node(sheet, list, notes, xs, c.at, c.value, left, k, r);
-    Behind { st: s, at: x.at }
+    draw_node(sheet, list, notes, st, c.at, c.value, left, k, r);
+    x
 }

@@ -1,5 +1,4 @@
 // compile_print of compiler.rs.
-use expressions::expr::Behind;
 use recorder::codegen::St;
 use recorder::word::Range;
 use rules::tables::Wants;
@@ -41,8 +40,8 @@ fn is_tab_spc(sheet: &[u32], at: usize, left: usize) -> bool
 }
 
 // Call 38 or 39.
-fn print_call(list: &mut [u32], st: St, r: Range, ty: Type) -> St
-    ensures { λ x. ⌜ ((t o b : List ℕ) → mem (now (list .exit)) o b x ≡ printCall (memR t) r ty (mem (now (list .entry)) o b st)) ⌝ }
+fn print_call(list: &mut [u32], st: &mut St, r: Range, ty: Type)
+    ensures { λ _. ⌜ ((t o b : List ℕ) → mem (now (list .exit)) o b (now (st .exit)) ≡ printCall (memR t) r ty (mem (now (list .entry)) o b (now (st .entry)))) ⌝ }
 {
     if rules::types::matches(ty, Type::Real) {
         recorder::codegen::emit_print_num(list, st, r)
@@ -52,8 +51,8 @@ fn print_call(list: &mut [u32], st: St, r: Range, ty: Type) -> St
 }
 
 // Call 40 or 41.
-fn tab_emit(list: &mut [u32], st: St, r: Range, k: u32) -> St
-    ensures { λ x. ⌜ ((t o b : List ℕ) → mem (now (list .exit)) o b x ≡ tabEmit (memR t) r k (mem (now (list .entry)) o b st)) ⌝ }
+fn tab_emit(list: &mut [u32], st: &mut St, r: Range, k: u32)
+    ensures { λ _. ⌜ ((t o b : List ℕ) → mem (now (list .exit)) o b (now (st .exit)) ≡ tabEmit (memR t) r k (mem (now (list .entry)) o b (now (st .entry)))) ⌝ }
 {
     if k == 28 {
         recorder::codegen::emit_print_spc(list, st, r)
@@ -63,11 +62,11 @@ fn tab_emit(list: &mut [u32], st: St, r: Range, k: u32) -> St
 }
 
 // One blank: the number one, and SPC.
-fn blank_between(list: &mut [u32], st: St, r: Range) -> St
-    ensures { λ x. ⌜ ((t o b : List ℕ) (base : ℕ) → mem (now (list .exit)) o b x ≡ blankBetween (memR t) t base r (mem (now (list .entry)) o b st)) ⌝ }
+fn blank_between(list: &mut [u32], st: &mut St, r: Range)
+    ensures { λ _. ⌜ ((t o b : List ℕ) (base : ℕ) → mem (now (list .exit)) o b (now (st .exit)) ≡ blankBetween (memR t) t base r (mem (now (list .entry)) o b (now (st .entry)))) ⌝ }
 {
-    let s = recorder::codegen::emit_number(list, st, r, 129, 2147483648);
-    recorder::codegen::emit_print_spc(list, s, r)
+    recorder::codegen::emit_number(list, st, r, 129, 2147483648);
+    recorder::codegen::emit_print_spc(list, st, r)
 }
 
 // Whether a blank follows: the next element is an expression, and this one is not TAB or SPC.
@@ -83,181 +82,172 @@ fn wants_blank(sheet: &[u32], at: usize, tabbed: bool) -> bool
 
 // What follows an expression: `more` counts its element and those behind it, the next of which is at the place.
 fn behind_value(
-    sheet: &[u32],
+    sheet: &&[u32],
     list: &mut [u32],
-    st: St,
+    st: &mut St,
     at: usize,
     more: u32,
     tabbed: bool,
     er: Range,
     r: Range,
-) -> St
-    ensures { λ x. ⌜ ((t o b : List ℕ) → mem (now (list .exit)) o b x ≡ behindCall (memR t) tabbed r er more (eqb (payloadAt (now (sheet .entry)) at) 0) (mem (now (list .entry)) o b st)) ⌝ }
+)
+    ensures { λ _. ⌜ ((t o b : List ℕ) → mem (now (list .exit)) o b (now (st .exit)) ≡ behindCall (memR t) tabbed r er more (eqb (payloadAt (now (now (sheet .entry))) at) 0) (mem (now (list .entry)) o b (now (st .entry)))) ⌝ }
 {
     if more < 2 {
-        return recorder::codegen::emit_newline(list, st, r);
+        recorder::codegen::emit_newline(list, st, r);
+        return;
     }
-    if wants_blank(sheet, at, tabbed) {
+    if wants_blank(*sheet, at, tabbed) {
         blank_between(list, st, er)
-    } else {
-        st
     }
 }
 
 // TAB or SPC, from the function's range on.
 fn tab_call(
-    sheet: &[u32],
-    text: &[u16],
+    sheet: &&[u32],
+    text: &&[u16],
     list: &mut [u32],
     notes: &mut [u32],
     book: &mut [u32],
-    st: St,
+    st: &mut St,
     base: u32,
     at: usize,
     left: usize,
     r: Range,
-) -> Behind
-    ensures { λ x. ⌜ Tabbed (now (sheet .entry)) (now (text .entry)) base left r at (mem (now (list .entry)) (now (notes .entry)) (now (book .entry)) st) (mem (now (list .exit)) (now (notes .exit)) (now (book .exit)) (x .st)) (x .at) ⌝ }
+) -> usize
+    ensures { λ x. ⌜ Tabbed (now (now (sheet .entry))) (now (now (text .entry))) base left r at (mem (now (list .entry)) (now (notes .entry)) (now (book .entry)) (now (st .entry))) (mem (now (list .exit)) (now (notes .exit)) (now (book .exit)) (now (st .exit))) x ⌝ }
 {
-    let q = recorder::word::behind(sheet, at);
-    let f = expressions::expr::read_payload(sheet, q);
-    let c = expressions::expr::read_payload(sheet, f.at);
-    let ns = expressions::surplus::surplus_notes(sheet, notes, st, c.at, c.value, 1, left);
+    let q = recorder::word::behind(*sheet, at);
+    let f = expressions::expr::read_payload(*sheet, q);
+    let c = expressions::expr::read_payload(*sheet, f.at);
+    expressions::surplus::surplus_notes(sheet, notes, st, c.at, c.value, 1, left);
     let x = expressions::expr::compile_args(
         sheet,
         text,
         list,
         notes,
         book,
-        ns,
+        st,
         base,
         c.at,
         c.value,
         Wants::Func(f.value),
         left,
     );
-    let xs = x.st;
-    let s = tab_emit(list, xs, r, f.value);
-    Behind { st: s, at: x.at }
+    tab_emit(list, st, r, f.value);
+    x
 }
 
 // An expression as an element: `more` counts it and the elements behind it.
 fn print_value(
-    sheet: &[u32],
-    text: &[u16],
+    sheet: &&[u32],
+    text: &&[u16],
     list: &mut [u32],
     notes: &mut [u32],
     book: &mut [u32],
-    st: St,
+    st: &mut St,
     base: u32,
     at: usize,
     left: usize,
     more: u32,
     r: Range,
-) -> Behind
-    ensures { λ x. ⌜ Valued (now (sheet .entry)) (now (text .entry)) base left more r at (mem (now (list .entry)) (now (notes .entry)) (now (book .entry)) st) (mem (now (list .exit)) (now (notes .exit)) (now (book .exit)) (x .st)) (x .at) ⌝ }
+) -> usize
+    ensures { λ x. ⌜ Valued (now (now (sheet .entry))) (now (now (text .entry))) base left more r at (mem (now (list .entry)) (now (notes .entry)) (now (book .entry)) (now (st .entry))) (mem (now (list .exit)) (now (notes .exit)) (now (book .exit)) (now (st .exit))) x ⌝ }
 {
-    let er = expressions::expr::node_range(sheet, at);
-    if is_tab_spc(sheet, at, left) {
-        let p = recorder::word::behind(sheet, recorder::word::behind(sheet, at));
+    let er = expressions::expr::node_range(*sheet, at);
+    if is_tab_spc(*sheet, at, left) {
+        let p = recorder::word::behind(*sheet, recorder::word::behind(*sheet, at));
         let x = tab_call(sheet, text, list, notes, book, st, base, p, left - 1, er);
-        let xs = x.st;
-        let s = behind_value(sheet, list, xs, x.at, more, true, er, r);
-        return Behind { st: s, at: x.at };
+        behind_value(sheet, list, st, x, more, true, er, r);
+        return x;
     }
     let x = expressions::expr::compile_expr(sheet, text, list, notes, book, st, base, at, left);
-    let xs = x.st;
     let xt = x.ty;
-    let vs = print_call(list, xs, er, xt);
-    let s = behind_value(sheet, list, vs, x.at, more, false, er, r);
-    Behind { st: s, at: x.at }
+    print_call(list, st, er, xt);
+    behind_value(sheet, list, st, x.at, more, false, er, r);
+    x.at
 }
 
 // One element: `more` counts it and those behind it.
 fn print_one(
-    sheet: &[u32],
-    text: &[u16],
+    sheet: &&[u32],
+    text: &&[u16],
     list: &mut [u32],
     notes: &mut [u32],
     book: &mut [u32],
-    st: St,
+    st: &mut St,
     base: u32,
     at: usize,
     left: usize,
     more: u32,
     r: Range,
-) -> Behind
-    ensures { λ x. ⌜ OnePrinted (now (sheet .entry)) (now (text .entry)) base left more r at (mem (now (list .entry)) (now (notes .entry)) (now (book .entry)) st) (mem (now (list .exit)) (now (notes .exit)) (now (book .exit)) (x .st)) (x .at) ⌝ }
+) -> usize
+    ensures { λ x. ⌜ OnePrinted (now (now (sheet .entry))) (now (now (text .entry))) base left more r at (mem (now (list .entry)) (now (notes .entry)) (now (book .entry)) (now (st .entry))) (mem (now (list .exit)) (now (notes .exit)) (now (book .exit)) (now (st .exit))) x ⌝ }
 {
-    let k = recorder::word::payload_at(sheet, at);
-    let q = recorder::word::behind(sheet, at);
-    let p = recorder::word::behind(sheet, q);
+    let k = recorder::word::payload_at(*sheet, at);
+    let q = recorder::word::behind(*sheet, at);
+    let p = recorder::word::behind(*sheet, q);
     match k {
         0 => print_value(sheet, text, list, notes, book, st, base, q, left, more, r),
         1 => {
-            let er = recorder::word::range_at(sheet, q);
-            let s = recorder::codegen::emit_newline(list, st, er);
-            Behind { st: s, at: p }
+            let er = recorder::word::range_at(*sheet, q);
+            recorder::codegen::emit_newline(list, st, er);
+            p
         }
-        _ => Behind { st, at: p },
+        _ => p,
     }
 }
 
 // So many elements from a place on.
 fn print_each(
-    sheet: &[u32],
-    text: &[u16],
+    sheet: &&[u32],
+    text: &&[u16],
     list: &mut [u32],
     notes: &mut [u32],
     book: &mut [u32],
-    st: St,
+    st: &mut St,
     base: u32,
     at: usize,
     left: usize,
     n: u32,
     r: Range,
-) -> Behind
-    ensures { λ x. ⌜ Printed (now (sheet .entry)) (now (text .entry)) base left n r at (mem (now (list .entry)) (now (notes .entry)) (now (book .entry)) st) (mem (now (list .exit)) (now (notes .exit)) (now (book .exit)) (x .st)) (x .at) ⌝ }
+) -> usize
+    ensures { λ x. ⌜ Printed (now (now (sheet .entry))) (now (now (text .entry))) base left n r at (mem (now (list .entry)) (now (notes .entry)) (now (book .entry)) (now (st .entry))) (mem (now (list .exit)) (now (notes .exit)) (now (book .exit)) (now (st .exit))) x ⌝ }
 {
-    let mut s = st;
     let mut p = at;
     let mut more = n;
     while 0 < more {
-        let x = print_one(sheet, text, list, notes, book, s, base, p, left, more, r);
-        s = x.st;
-        p = x.at;
+        p = print_one(sheet, text, list, notes, book, st, base, p, left, more, r);
         more -= 1;
     }
-    Behind { st: s, at: p }
+    p
 }
 
 // PRINT with no element is a new line.
-fn empty_line(list: &mut [u32], st: St, n: u32, r: Range) -> St
-    ensures { λ x. ⌜ ((t o b : List ℕ) → mem (now (list .exit)) o b x ≡ blankLine (memR t) n r (mem (now (list .entry)) o b st)) ⌝ }
+fn empty_line(list: &mut [u32], st: &mut St, n: u32, r: Range)
+    ensures { λ _. ⌜ ((t o b : List ℕ) → mem (now (list .exit)) o b (now (st .exit)) ≡ blankLine (memR t) n r (mem (now (list .entry)) o b (now (st .entry)))) ⌝ }
 {
     if n == 0 {
         recorder::codegen::emit_newline(list, st, r)
-    } else {
-        st
     }
 }
 
 pub fn compile_print(
-    sheet: &[u32],
-    text: &[u16],
+    sheet: &&[u32],
+    text: &&[u16],
     list: &mut [u32],
     notes: &mut [u32],
     book: &mut [u32],
-    st: St,
+    st: &mut St,
     base: u32,
     at: usize,
     left: usize,
     k: u32,
     r: Range,
-) -> Behind
-    ensures { λ x. ⌜ Body (now (sheet .entry)) (now (text .entry)) base left Shape.Print k r at (mem (now (list .entry)) (now (notes .entry)) (now (book .entry)) st) (mem (now (list .exit)) (now (notes .exit)) (now (book .exit)) (x .st)) (x .at) ⌝ }
+) -> usize
+    ensures { λ x. ⌜ Body (now (now (sheet .entry))) (now (now (text .entry))) base left Shape.Print k r at (mem (now (list .entry)) (now (notes .entry)) (now (book .entry)) (now (st .entry))) (mem (now (list .exit)) (now (notes .exit)) (now (book .exit)) (now (st .exit))) x ⌝ }
 {
-    let c = expressions::expr::read_payload(sheet, at);
+    let c = expressions::expr::read_payload(*sheet, at);
     let x = print_each(
         sheet,
         text,
@@ -271,8 +261,7 @@ pub fn compile_print(
         c.value,
         r,
     );
-    let xs = x.st;
-    let es = empty_line(list, xs, c.value, r);
-    let s = recorder::codegen::emit_flush(list, es, r);
-    Behind { st: s, at: x.at }
+    empty_line(list, st, c.value, r);
+    recorder::codegen::emit_flush(list, st, r);
+    x
 }

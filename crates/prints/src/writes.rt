@@ -1,5 +1,4 @@
 // compile_write of compiler.rs.
-use expressions::expr::Behind;
 use recorder::codegen::St;
 use recorder::word::Range;
 use rules::types::Type;
@@ -29,8 +28,8 @@ fn end_flag(more: u32) -> u32
 }
 
 // A value that is written: call 44 or 45.
-fn kept_call(list: &mut [u32], st: St, r: Range, file: u32, end: u32, ty: Type) -> St
-    ensures { λ x. ⌜ ((t o b : List ℕ) → mem (now (list .exit)) o b x ≡ keptCall (memR t) r file end ty (mem (now (list .entry)) o b st)) ⌝ }
+fn kept_call(list: &mut [u32], st: &mut St, r: Range, file: u32, end: u32, ty: Type)
+    ensures { λ _. ⌜ ((t o b : List ℕ) → mem (now (list .exit)) o b (now (st .exit)) ≡ keptCall (memR t) r file end ty (mem (now (list .entry)) o b (now (st .entry)))) ⌝ }
 {
     if rules::types::matches(ty, Type::Real) {
         recorder::codegen::emit_write_num(list, st, r, file, end)
@@ -40,8 +39,8 @@ fn kept_call(list: &mut [u32], st: St, r: Range, file: u32, end: u32, ty: Type) 
 }
 
 // A value that is dropped: call 46 or 47.
-fn dropped_call(list: &mut [u32], st: St, r: Range, ty: Type) -> St
-    ensures { λ x. ⌜ ((t o b : List ℕ) → mem (now (list .exit)) o b x ≡ droppedCall (memR t) r ty (mem (now (list .entry)) o b st)) ⌝ }
+fn dropped_call(list: &mut [u32], st: &mut St, r: Range, ty: Type)
+    ensures { λ _. ⌜ ((t o b : List ℕ) → mem (now (list .exit)) o b (now (st .exit)) ≡ droppedCall (memR t) r ty (mem (now (list .entry)) o b (now (st .entry)))) ⌝ }
 {
     if rules::types::matches(ty, Type::Real) {
         recorder::codegen::emit_pop_num(list, st, r)
@@ -54,74 +53,72 @@ fn dropped_call(list: &mut [u32], st: St, r: Range, ty: Type) -> St
 fn write_value(
     list: &mut [u32],
     notes: &mut [u32],
-    st: St,
+    st: &mut St,
     file: u32,
     more: u32,
     comma: u32,
     r: Range,
     ty: Type,
-) -> St
-    ensures { λ x. ⌜ ((t b : List ℕ) (base : ℕ) (e : Expr) → r ≡ exprRange e → mem (now (list .exit)) (now (notes .exit)) b x ≡ writeValue (memR t) t base file (element e comma) (eqb more 1) ty (mem (now (list .entry)) (now (notes .entry)) b st)) ⌝ }
+)
+    ensures { λ _. ⌜ ((t b : List ℕ) (base : ℕ) (e : Expr) → r ≡ exprRange e → mem (now (list .exit)) (now (notes .exit)) b (now (st .exit)) ≡ writeValue (memR t) t base file (element e comma) (eqb more 1) ty (mem (now (list .entry)) (now (notes .entry)) b (now (st .entry)))) ⌝ }
 {
     if is_kept(more, comma) {
         let end = end_flag(more);
         kept_call(list, st, r, file, end, ty)
     } else {
-        let s = recorder::codegen::note(notes, st, 11, r, 2);
-        dropped_call(list, s, r, ty)
+        recorder::codegen::note(notes, st, 11, r, 2);
+        dropped_call(list, st, r, ty)
     }
 }
 
 // So many values from a place on, each with its flag.
 fn write_each(
-    sheet: &[u32],
-    text: &[u16],
+    sheet: &&[u32],
+    text: &&[u16],
     list: &mut [u32],
     notes: &mut [u32],
     book: &mut [u32],
-    st: St,
+    st: &mut St,
     base: u32,
     at: usize,
     left: usize,
     n: u32,
     file: u32,
-) -> Behind
-    ensures { λ x. ⌜ WritesDone (now (sheet .entry)) (now (text .entry)) base left file n at (mem (now (list .entry)) (now (notes .entry)) (now (book .entry)) st) (mem (now (list .exit)) (now (notes .exit)) (now (book .exit)) (x .st)) (x .at) ⌝ }
+) -> usize
+    ensures { λ x. ⌜ WritesDone (now (now (sheet .entry))) (now (now (text .entry))) base left file n at (mem (now (list .entry)) (now (notes .entry)) (now (book .entry)) (now (st .entry))) (mem (now (list .exit)) (now (notes .exit)) (now (book .exit)) (now (st .exit))) x ⌝ }
 {
-    let mut s = st;
     let mut p = at;
     let mut more = n;
     while 0 < more {
-        let x = expressions::expr::compile_expr(sheet, text, list, notes, book, s, base, p, left);
-        let xs = x.st;
+        let x = expressions::expr::compile_expr(sheet, text, list, notes, book, st, base, p, left);
         let xt = x.ty;
-        let c = expressions::expr::read_payload(sheet, x.at);
-        let r = expressions::expr::node_range(sheet, p);
-        s = write_value(list, notes, xs, file, more, c.value, r, xt);
+        let c = expressions::expr::read_payload(*sheet, x.at);
+        let r = expressions::expr::node_range(*sheet, p);
+        write_value(list, notes, st, file, more, c.value, r, xt);
         p = c.at;
         more -= 1;
     }
-    Behind { st: s, at: p }
+    p
 }
 
 pub fn compile_write(
-    sheet: &[u32],
-    text: &[u16],
+    sheet: &&[u32],
+    text: &&[u16],
     list: &mut [u32],
     notes: &mut [u32],
     book: &mut [u32],
-    st: St,
+    st: &mut St,
     base: u32,
     at: usize,
     left: usize,
     k: u32,
     r: Range,
-) -> Behind
-    ensures { λ x. ⌜ Body (now (sheet .entry)) (now (text .entry)) base left Shape.Write k r at (mem (now (list .entry)) (now (notes .entry)) (now (book .entry)) st) (mem (now (list .exit)) (now (notes .exit)) (now (book .exit)) (x .st)) (x .at) ⌝ }
+) -> usize
+    ensures { λ x. ⌜ Body (now (now (sheet .entry))) (now (now (text .entry))) base left Shape.Write k r at (mem (now (list .entry)) (now (notes .entry)) (now (book .entry)) (now (st .entry))) (mem (now (list .exit)) (now (notes .exit)) (now (book .exit)) (now (st .exit))) x ⌝ }
 {
-    if sheet::leaf::is_absent(sheet, at) {
-        let q = recorder::word::behind(sheet, at);
-        let c = expressions::expr::read_payload(sheet, q);
+    if sheet::leaf::is_absent(*sheet, at) {
+        let q = recorder::word::behind(*sheet, at);
+        let c = expressions::expr::read_payload(*sheet, q);
         let x = write_each(
             sheet,
             text,
@@ -135,9 +132,8 @@ pub fn compile_write(
             c.value,
             0,
         );
-        let xs = x.st;
-        let s = recorder::codegen::emit_flush(list, xs, r);
-        return Behind { st: s, at: x.at };
+        recorder::codegen::emit_flush(list, st, r);
+        return x;
     }
     let f = expressions::expr::compile_typed(
         sheet,
@@ -151,15 +147,14 @@ pub fn compile_write(
         left,
         Type::Real,
     );
-    let fs = f.st;
-    let c = expressions::expr::read_payload(sheet, f.at);
+    let c = expressions::expr::read_payload(*sheet, f);
     write_each(
         sheet,
         text,
         list,
         notes,
         book,
-        fs,
+        st,
         base,
         c.at,
         left,

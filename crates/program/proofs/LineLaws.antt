@@ -8,11 +8,10 @@ use native.Mathlib.Numerals.{sub-one}
 use native.Mathlib.Omega.{arith}
 use Rattle.recorder.specs.declared.word.Range.{Range}
 use Rattle.recorder.specs.declared.label.Label.{Label}
-use Rattle.recorder.specs.declared.codegen.St.{St}
 use Rattle.recorder.specs.Word.{payloadAt, next}
 use Rattle.recorder.specs.Marks.{Mark}
 use Rattle.labels.specs.MarkWords.{markList, markCount}
-use Rattle.recorder.specs.Mem.{Mem, mem, memR, onLine}
+use Rattle.recorder.specs.Mem.{Mem, mem, memR, asWord, recordsIn, firstIn, onLine}
 use Rattle.sheet.specs.Form.{isAbsent}
 use Rattle.sheet.specs.Tree.{ProgramLine, optAt, targetAt, behindLabel, lineStmts, lineAt, behindLine, itemsAt, programAt}
 use Rattle.rules.specs.Name.{textPlace}
@@ -41,9 +40,9 @@ note-rising t base last o r l m e h = rw (e, le-ltb (l .0) last h)
 pub mark-none : (o : OptTarget) (a f : ℕ) (w : List ℕ) (n : ℕ) → o ≡ absentTarget → (w ≡ lineWork (targetOf o) a f w n) × (n ≡ lineCount (targetOf o) w n)
 mark-none o a f w n e = rw e (refl, refl)
 
-pub mark-given : (o : OptTarget) (r : Range) (l : Label) (x a f : ℕ) (w w′ : List ℕ) (n k : ℕ) → o ≡ givenTarget r l → x ≡ a → (w′ ≡ markList w n (l .0) x f) × (k ≡ markCount w n)
+pub mark-given : (o : OptTarget) (r : Range) (l : Label) (a f : ℕ) (w w′ : List ℕ) (n k : ℕ) → o ≡ givenTarget r l → (w′ ≡ markList w n (l .0) a f) × (k ≡ markCount w n)
     → (w′ ≡ lineWork (targetOf o) a f w n) × (k ≡ lineCount (targetOf o) w n)
-mark-given o r l x a f w w′ n k e h p = rw (e, ← h) p
+mark-given o r l a f w w′ n k e p = rw e p
 
 pub last-none : (o : OptTarget) (last : ℕ) → o ≡ absentTarget → last ≡ lastLabel last (targetOf o)
 last-none o last e = rw e
@@ -52,28 +51,29 @@ pub last-given : (o : OptTarget) (r : Range) (l : Label) (last : ℕ) → o ≡ 
 last-given o r l last e = rw e
 
 -- a line
-pub line-of : (s t : List ℕ) (line : ℕ) (c : Lines) (o : OptTarget) (len p q q1 k last base : ℕ) (l n n1 b l2 n2 b2 w w′ : List ℕ) (s1 s2 s3 : St)
-    → len ≡ payloadAt s (c .at) → p ≡ next s (c .at) → targetOf o ≡ optAt s (targetAt s) p → q ≡ behindLabel s p → s1 ≡ onLine (c .st) line
+pub line-of : (s t : List ℕ) (line : ℕ) (c : Lines) (o : OptTarget) (len p q q1 addr first k last base : ℕ) (l n n1 b l2 n2 b2 w w′ st s1 s2 s3 : List ℕ)
+    → len ≡ payloadAt s (c .at) → p ≡ next s (c .at) → targetOf o ≡ optAt s (targetAt s) p → q ≡ behindLabel s p → addr ≡ asWord (recordsIn st) → s1 ≡ onLine st line
     → mem l n1 b s2 ≡ labelNote (memR t) t (c .base) (c .last) (targetOf o) (mem l n b s1) → CompiledStmts s t (c .base) 64 q (mem l n1 b s2) (mem l2 n2 b2 s3) q1
-    → (w′ ≡ lineWork (targetOf o) (c .st .records) (s3 .first) w (c .marks)) × (k ≡ lineCount (targetOf o) w (c .marks)) → last ≡ lastLabel (c .last) (targetOf o)
+    → first ≡ asWord (firstIn s3)
+    → (w′ ≡ lineWork (targetOf o) addr first w (c .marks)) × (k ≡ lineCount (targetOf o) w (c .marks)) → last ≡ lastLabel (c .last) (targetOf o)
     → base ≡ textPlace (c .base) len
-    → CompiledLine s t line c (record { st = s3; at = q1; marks = k; last = last; base = base }) (mem l n b (c .st)) (mem l2 n2 b2 s3) w w′
+    → CompiledLine s t line c (record { at = q1; marks = k; last = last; base = base }) (mem l n b st) (mem l2 n2 b2 s3) w w′
 unfolding compileLine
-line-of s t line c o len p q q1 k last base l n n1 b l2 n2 b2 w w′ s1 s2 s3 hl hp ho hq hs hn x hw hla hb =
+line-of s t line c o len p q q1 addr first k last base l n n1 b l2 n2 b2 w w′ st s1 s2 s3 hl hp ho hq ha hs hn x hf hw hla hb =
     let g : targetOf o ≡ optAt s (targetAt s) (next s (c .at)) = rw (← hp) ho in
     let e : mem l2 n2 b2 s3 ≡ compileStmts (memR t) t (c .base) (lineStmts s (behindLabel s (next s (c .at))))
-    (labelNote (memR t) t (c .base) (c .last) (optAt s (targetAt s) (next s (c .at))) (mem l n b (onLine (c .st) line))) =
+    (labelNote (memR t) t (c .base) (c .last) (optAt s (targetAt s) (next s (c .at))) (mem l n b (onLine st line))) =
     rw (← hp, ← hq, x .result, hn, hs, ho) in
     record {
       place = x .place ∙ rw (hq, hp);
       lines = λ ms. rw (hla, hb, hl, g) (ap (λ (z : Mem). record {
         state = z;
-        marks = marked (optAt s (targetAt s) (next s (c .at))) (c .st .records) (z .st .first) ms;
+        marks = marked (optAt s (targetAt s) (next s (c .at))) (asWord (recordsIn st)) (memR t .firstDatum z) ms;
         last = lastLabel (c .last) (optAt s (targetAt s) (next s (c .at)));
         base = textPlace (c .base) (payloadAt s (c .at));
         line = line + 1;
       }) e);
-      words = hw .0 ∙ rw g;
+      words = hw .0 ∙ rw (ha, hf, g);
       count = hw .1 ∙ rw g;
     }
 
@@ -83,8 +83,8 @@ pub record Going (s t : List ℕ) (count line : ℕ) (c : Lines) (m₀ m : Mem) 
   pub kept : w₀ ≡ replicate (length w₀) 0 → 3 * payloadAt s 0 < length w₀ → payloadAt s 0 < 65536 → Kept w (c .marks) (count - line) marks
   pub lines : compileLines (memR t) t (itemsAt s (lineAt s) (behindLine s) (count - line) (c .at)) (linesOf c line m marks) ≡ compileLines (memR t) t (programAt s) (firstLine (memR t) t m₀)
 
-pub going-start : (s t : List ℕ) (count at : ℕ) (l n b w : List ℕ) (st : St) → count ≡ payloadAt s 0 → at ≡ next s 0
-    → Going s t count 0 (record { st = st; at = at; marks = 0; last = 0; base = 0 }) (mem l n b st) (mem l n b st) w w
+pub going-start : (s t : List ℕ) (count at : ℕ) (l n b w st : List ℕ) → count ≡ payloadAt s 0 → at ≡ next s 0
+    → Going s t count 0 (record { at = at; marks = 0; last = 0; base = 0 }) (mem l n b st) (mem l n b st) w w
 unfolding programAt
 going-start s t count at l n b w st hc ha = record {
   marks = [];
@@ -106,9 +106,9 @@ pub going-on : (s t : List ℕ) (count line : ℕ) (c d : Lines) (m₀ m m′ : 
 going-on s t count line c d m₀ m m′ w₀ w w′ h x same g =
     let left : count - (line + 1) ≡ count - line - 1 = omega arith in
     record {
-      marks = marked (lineAt s (c .at) .label) (m .st .records) (m′ .st .first) (g .marks);
+      marks = marked (lineAt s (c .at) .label) (memR t .count m) (memR t .firstDatum m′) (g .marks);
       kept = λ z i j. rw (left, x .count) (kept-line (isAbsent s (next s (c .at))) (targetAt s) (next s (c .at)) w (c .marks) (count - line) (g .marks)
-          (m .st .records) (m′ .st .first) w′ (omega arith) (omega arith) (g .kept z i j) same (x .words));
+          (memR t .count m) (memR t .firstDatum m′) w′ (omega arith) (omega arith) (g .kept z i j) same (x .words));
       lines = rw (left, x .place, x .lines (g .marks)) (inv (lines-more t (lineAt s (c .at)) (itemsAt s (lineAt s) (behindLine s) (count - line - 1) (behindLine s (c .at))) (linesOf c line m (g .marks)))
           ∙ ap (λ (z : List ProgramLine). compileLines (memR t) t z (linesOf c line m (g .marks))) (inv (items-step s (count - line) (c .at) (omega arith))) ∙ g .lines);
     }

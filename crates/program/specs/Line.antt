@@ -29,8 +29,8 @@ linesOf c line m ms = record { state = m; marks = ms; last = c .last; base = c .
 -- the line at c's place
 pub record CompiledLine (s t : List ℕ) (line : ℕ) (c d : Lines) (m m′ : Mem) (w w′ : List ℕ) : Type 0 where
   pub place : d .at ≡ behindLine s (c .at)
-  pub lines : (ms : List Mark) → linesOf d (line + 1) m′ (marked (lineAt s (c .at) .label) (m .st .records) (m′ .st .first) ms) ≡ compileLine (memR t) t (lineAt s (c .at)) (linesOf c line m ms)
-  pub words : w′ ≡ lineWork (lineAt s (c .at) .label) (m .st .records) (m′ .st .first) w (c .marks)
+  pub lines : (ms : List Mark) → linesOf d (line + 1) m′ (marked (lineAt s (c .at) .label) (memR t .count m) (memR t .firstDatum m′) ms) ≡ compileLine (memR t) t (lineAt s (c .at)) (linesOf c line m ms)
+  pub words : w′ ≡ lineWork (lineAt s (c .at) .label) (memR t .count m) (memR t .firstDatum m′) w (c .marks)
   pub count : d .marks ≡ lineCount (lineAt s (c .at) .label) w (c .marks)
 
 -- all lines; the labelled ones are in the work if it was zeros, with three words for each line and one more, and the lines' number has

@@ -6,19 +6,19 @@ use Prim.Native.Nat.{ℕ, zero, suc, _+_, _*_, _-_, _≤_, _<_, _/_, _%_, min}
 use lib.Dec.{ltb, eqb}
 use lib.ListN.{length, getD, set, take, drop, replicate, length-set, length-drop, drop-of-length-le}
 use lib.Seq.{take-all, drop-length}
+use lib.Seq.{getD-set-other}
 use borrow.Author.Tests.{lt-ltb, le-ltb, eq-eqb, ne-eqb, ltb-true}
 use borrow.Author.Fill.{fill-more}
 use borrow.Rule.Slice.PartMut.{midOf, putMid}
 use native.Mathlib.Numerals.{sub-one}
 use native.Mathlib.Omega.{arith}
-use Rattle.recorder.specs.declared.codegen.St.{St}
 use Rattle.recorder.specs.declared.codegen.Descent.{Descent}
 use Rattle.recorder.specs.declared.word.Range.{Range}
 use Rattle.recorder.specs.Word.{pick, both, kind, payloadAt, wordOf, rangeWord, next}
 use Rattle.recorder.specs.Name.{upper, sameUnits, sameName}
 use Rattle.recorder.specs.Ideal.{firstOf}
 use Rattle.recorder.specs.Layout.{mostRecords}
-use Rattle.recorder.specs.Mem.{putList, putRec, putSt, withRecords, four, more, low, known, sigilCode, withLink, tagOf, nameTag, isNameEntry, taggedAt, namedAt, lookup, hashStep, hashOf, childOf, descentFrom, descentTo, entryOf, mayLink, linkedAt, linked, rootOf, newList, newSt, symbolNumber, symbolList, symbolSt, entryList, entrySt, noteList, noteSt, withNames, withNotes, withEntries, part, atRec, onRec}
+use Rattle.recorder.specs.Mem.{putList, putRec, putSt, four, more, low, known, sigilCode, withLink, tagOf, nameTag, isNameEntry, taggedAt, namedAt, lookup, hashStep, hashOf, childOf, descentFrom, descentTo, entryOf, mayLink, linkedAt, linked, rootOf, newList, newSt, symbolNumber, symbolList, symbolSt, entryList, entrySt, noteList, noteSt, part, atRec, onRec, recordsIn, notesIn, entriesIn, namesIn, rootIn, lineIn, asWord}
 use Rattle.recorder.proofs.Bools.{both-false}
 
 -- the units' loop: one turn, a difference, the end
@@ -115,7 +115,7 @@ unfolding descentFrom
 descent-end t b end x n g at bits zero w h e = e
 descent-end t b end x n g at bits (suc left) w h e = absurd (omega arith)
 
-pub descent-all : (t b : List ℕ) (st : St) (end x n g c at bits : ℕ) (w : Descent) → end ≡ known b st → at ≡ st .root - 1 → c ≡ sigilCode g → bits ≡ hashOf t x c n
+pub descent-all : (t b : List ℕ) (st : List ℕ) (end x n g c at bits : ℕ) (w : Descent) → end ≡ known b st → at ≡ rootIn st - 1 → c ≡ sigilCode g → bits ≡ hashOf t x c n
     → w ≡ descentFrom t b end x n g (descent at bits) end → w ≡ descentTo t b st x n g
 unfolding descentTo
 descent-all t b st end x n g c at bits w i j k l e = e ∙ rw (l, k, j, i)
@@ -139,31 +139,31 @@ pub in-tree : (root end at : ℕ) (f : Bool) → (root ≡ 0 → ⊥) → at < e
 in-tree root end at f h i = rw (lt-ltb 0 root (omega (arith, positive root h)), lt-ltb at end i)
 
 -- a name's entry: in the tree, or past it
-pub seek-reached : (t b : List ℕ) (st : St) (x n g end at : ℕ) (f r : Bool) → end ≡ known b st → r ≡ both (ltb 0 (st .root)) (both (ltb at end) f) → r ≡ true
-    → at ≡ pick (both (ltb 0 (st .root)) (both (ltb at (known b st)) f)) at (lookup t b x n g (min (known b st) 32768) (known b st - 32768))
+pub seek-reached : (t b : List ℕ) (st : List ℕ) (x n g end at : ℕ) (f r : Bool) → end ≡ known b st → r ≡ both (ltb 0 (rootIn st)) (both (ltb at end) f) → r ≡ true
+    → at ≡ pick (both (ltb 0 (rootIn st)) (both (ltb at (known b st)) f)) at (lookup t b x n g (min (known b st) 32768) (known b st - 32768))
 seek-reached t b st x n g end at f r e i j = rw (← e, ← i, j)
 
-pub seek-past : (t b : List ℕ) (st : St) (x n g end at from k : ℕ) (f r : Bool) → end ≡ known b st → r ≡ both (ltb 0 (st .root)) (both (ltb at end) f) → r ≡ false
+pub seek-past : (t b : List ℕ) (st : List ℕ) (x n g end at from k : ℕ) (f r : Bool) → end ≡ known b st → r ≡ both (ltb 0 (rootIn st)) (both (ltb at end) f) → r ≡ false
     → from ≡ min end 32768 → k ≡ lookup t b x n g from (known b st - from)
-    → k ≡ pick (both (ltb 0 (st .root)) (both (ltb at (known b st)) f)) at (lookup t b x n g (min (known b st) 32768) (known b st - 32768))
+    → k ≡ pick (both (ltb 0 (rootIn st)) (both (ltb at (known b st)) f)) at (lookup t b x n g (min (known b st) 32768) (known b st - 32768))
 seek-past t b st x n g end at from k f r e i j o p =
     let q : known b st - from ≡ known b st - 32768 = omega arith in
     rw (← e, ← i, j) (p ∙ rw (q, o, e))
 
 -- a tree's first name
-pub root-new : (st : St) (room : ℕ) (f : Bool) → st .root ≡ 0 → f ≡ both (ltb (st .entries) room) (ltb (st .entries) 32768) → f ≡ true
-    → st .entries + 1 ≡ pick (both (eqb (st .root) 0) (both (ltb (st .entries) room) (ltb (st .entries) 32768))) (st .entries + 1) (st .root)
-root-new st room f e i j = rw (eq-eqb (st .root) 0 e, ← i, j)
+pub root-new : (root entries room : ℕ) (f : Bool) → root ≡ 0 → f ≡ both (ltb entries room) (ltb entries 32768) → f ≡ true
+    → entries + 1 ≡ pick (both (eqb root 0) (both (ltb entries room) (ltb entries 32768))) (entries + 1) root
+root-new root entries room f e i j = rw (eq-eqb root 0 e, ← i, j)
 
-pub root-not : (st : St) (room : ℕ) (f : Bool) → f ≡ both (ltb (st .entries) room) (ltb (st .entries) 32768) → f ≡ false
-    → st .root ≡ pick (both (eqb (st .root) 0) (both (ltb (st .entries) room) (ltb (st .entries) 32768))) (st .entries + 1) (st .root)
-root-not st room f i j = rw (← i, j, both-false (eqb (st .root) 0))
+pub root-not : (root entries room : ℕ) (f : Bool) → f ≡ both (ltb entries room) (ltb entries 32768) → f ≡ false
+    → root ≡ pick (both (eqb root 0) (both (ltb entries room) (ltb entries 32768))) (entries + 1) root
+root-not root entries room f i j = rw (← i, j, both-false (eqb root 0))
 
-pub root-old : (st : St) (room : ℕ) → (st .root ≡ 0 → ⊥)
-    → st .root ≡ pick (both (eqb (st .root) 0) (both (ltb (st .entries) room) (ltb (st .entries) 32768))) (st .entries + 1) (st .root)
-root-old st room e = rw (ne-eqb (st .root) 0 e)
+pub root-old : (root entries room : ℕ) → (root ≡ 0 → ⊥)
+    → root ≡ pick (both (eqb root 0) (both (ltb entries room) (ltb entries 32768))) (entries + 1) root
+root-old root entries room e = rw (ne-eqb root 0 e)
 
-pub root-again : (b : List ℕ) (st : St) (k : ℕ) → k ≡ pick (both (eqb (st .root) 0) (mayLink b st)) (st .entries + 1) (st .root) → k ≡ rootOf b st
+pub root-again : (b : List ℕ) (st : List ℕ) (k : ℕ) → k ≡ pick (both (eqb (rootIn st) 0) (mayLink b st)) (entriesIn st + 1) (rootIn st) → k ≡ rootOf b st
 unfolding rootOf
 root-again b st k e = e
 
@@ -175,78 +175,78 @@ pick-length : (f : Bool) (a b : List ℕ) → length a ≡ length b → length (
 pick-length true a b e = e
 pick-length false a b e = refl
 
-pub next-linked : (b b₁ : List ℕ) (st : St) (at bits : ℕ) (f : Bool) → 0 < st .root → f ≡ mayLink b st → f ≡ true → b₁ ≡ linkedAt b (st .entries) (descent at bits)
+pub next-linked : (b b₁ : List ℕ) (st : List ℕ) (at bits : ℕ) (f : Bool) → 0 < rootIn st → f ≡ mayLink b st → f ≡ true → b₁ ≡ linkedAt b (entriesIn st) (descent at bits)
     → b₁ ≡ linked b st (descent at bits)
 unfolding linked
-next-linked b b₁ st at bits f h i j e = rw (lt-ltb 0 (st .root) h, ← i, j) e
+next-linked b b₁ st at bits f h i j e = rw (lt-ltb 0 (rootIn st) h, ← i, j) e
 
-pub next-full : (b : List ℕ) (st : St) (at bits : ℕ) (f : Bool) → f ≡ mayLink b st → f ≡ false
+pub next-full : (b : List ℕ) (st : List ℕ) (at bits : ℕ) (f : Bool) → f ≡ mayLink b st → f ≡ false
     → b ≡ linked b st (descent at bits)
 unfolding linked
-next-full b st at bits f i j = rw (← i, j, both-false (ltb 0 (st .root)))
+next-full b st at bits f i j = rw (← i, j, both-false (ltb 0 (rootIn st)))
 
-pub next-none : (b : List ℕ) (st : St) (at bits : ℕ) → st .root ≤ 0
+pub next-none : (b : List ℕ) (st : List ℕ) (at bits : ℕ) → rootIn st ≤ 0
     → b ≡ linked b st (descent at bits)
 unfolding linked
-next-none b st at bits h = rw (le-ltb 0 (st .root) h)
+next-none b st at bits h = rw (le-ltb 0 (rootIn st) h)
 
 pub linked-length : (b : List ℕ) (k : ℕ) (w : Descent) → length (linkedAt b k w) ≡ length b
 unfolding linkedAt
 linked-length b k w = pick-length (ltb (w .at) (length b / 4)) (set b (4 * w .at + 3) (withLink (ltb 2147483647 (w .bits)) (getD b (4 * w .at + 3) 0) k)) b (length-set b (4 * w .at + 3) _)
 
-linked-same : (b b₁ : List ℕ) (st : St) (w : Descent) → b₁ ≡ linked b st w → length b₁ ≡ length b
+linked-same : (b b₁ : List ℕ) (st : List ℕ) (w : Descent) → b₁ ≡ linked b st w → length b₁ ≡ length b
 unfolding linked
-linked-same b b₁ st w e = ap length e ∙ pick-length (both (ltb 0 (st .root)) (mayLink b st)) (linkedAt b (st .entries) w) b (linked-length b (st .entries) w)
+linked-same b b₁ st w e = ap length e ∙ pick-length (both (ltb 0 (rootIn st)) (mayLink b st)) (linkedAt b (entriesIn st) w) b (linked-length b (entriesIn st) w)
 
-entry-same : (b b₁ : List ℕ) (st : St) → length b₁ ≡ length b → entrySt b₁ st ≡ entrySt b st
+entry-same : (b b₁ : List ℕ) (st : List ℕ) → length b₁ ≡ length b → entrySt b₁ st ≡ entrySt b st
 unfolding entrySt
 entry-same b b₁ st e = rw e
 
-pub sought : (t b : List ℕ) (st : St) (x n g k v : ℕ) (w : Descent) (f : Bool) → (w ≡ descentTo t b st x n g) × (f ≡ namedAt t b (w .at) x n g) × (v ≡ nameTag t x n g)
-    → k ≡ pick (both (ltb 0 (st .root)) (both (ltb (w .at) (known b st)) f)) (w .at) (lookup t b x n g (min (known b st) 32768) (known b st - 32768))
+pub sought : (t b : List ℕ) (st : List ℕ) (x n g k v : ℕ) (w : Descent) (f : Bool) → (w ≡ descentTo t b st x n g) × (f ≡ namedAt t b (w .at) x n g) × (v ≡ nameTag t x n g)
+    → k ≡ pick (both (ltb 0 (rootIn st)) (both (ltb (w .at) (known b st)) f)) (w .at) (lookup t b x n g (min (known b st) 32768) (known b st - 32768))
     → (w ≡ descentTo t b st x n g) × (k ≡ entryOf t b st x n g) × (v ≡ nameTag t x n g)
 unfolding entryOf
 sought t b st x n g k v w f a e = (a .0, e ∙ rw (a .1, a .0), a .2)
 
-pub new-name : (b b₁ b₂ : List ℕ) (st s s′ : St) (k x n g c v u h o : ℕ) (w : Descent) → b₁ ≡ linked b st w
-    → v ≡ low (st .names) → u ≡ more (st .names) (length b / 4) → o ≡ rootOf b st → h ≡ wordOf k v → c ≡ sigilCode g
-    → (b₂ ≡ entryList b₁ st h x n c) × (s ≡ entrySt b₁ st) → s′ ≡ withNames s u o
-    → (b₂ ≡ newList b st w k x n g) × (s′ ≡ newSt b st) × (v ≡ low (st .names))
-new-name b b₁ b₂ st s s′ k x n g c v u h o w f p q r y z d β =
-    (d .0 ∙ rw (f, y, p, z), β ∙ rw (d .1, q, r, entry-same b b₁ st (linked-same b b₁ st w f)), p)
+pub new-name : (b b₁ b₂ : List ℕ) (st s : List ℕ) (k x n g c v u h o : ℕ) (w : Descent) → b₁ ≡ linked b st w
+    → v ≡ low (namesIn st) → u ≡ more (namesIn st) (length b / 4) → o ≡ rootOf b st → h ≡ wordOf k v → c ≡ sigilCode g
+    → (b₂ ≡ entryList b₁ st h x n c) × (s ≡ entrySt b₁ st)
+    → (b₂ ≡ newList b st w k x n g) × (set (set s 3 u) 4 o ≡ newSt b st) × (v ≡ low (namesIn st))
+new-name b b₁ b₂ st s k x n g c v u h o w f p q r y z d =
+    (d .0 ∙ rw (f, y, p, z), rw (d .1, q, r, entry-same b b₁ st (linked-same b b₁ st w f)), p)
 
 -- a name that is in the book, and one that is not
-pub symbol-found : (t b : List ℕ) (st : St) (x n g k m v : ℕ) → k ≡ entryOf t b st x n g → m ≡ known b st → k < m → v ≡ payloadAt b (4 * k)
+pub symbol-found : (t b : List ℕ) (st : List ℕ) (x n g k m v : ℕ) → k ≡ entryOf t b st x n g → m ≡ known b st → k < m → v ≡ payloadAt b (4 * k)
     → (b ≡ symbolList t b st x n g) × (st ≡ symbolSt t b st x n g) × (v ≡ symbolNumber t b st x n g)
 unfolding symbolList symbolSt symbolNumber
 symbol-found t b st x n g k m v q i h j = let l = lt-ltb _ _ (rw (q, i) at h) in (rw l, rw l, rw l (rw q at j))
 
-pub symbol-new : (t b b′ : List ℕ) (st s : St) (x n g k m v u : ℕ) (w : Descent) → w ≡ descentTo t b st x n g → k ≡ entryOf t b st x n g → u ≡ nameTag t x n g → m ≡ known b st → m ≤ k
-    → (b′ ≡ newList b st w u x n g) × (s ≡ newSt b st) × (v ≡ low (st .names))
+pub symbol-new : (t b b′ : List ℕ) (st s : List ℕ) (x n g k m v u : ℕ) (w : Descent) → w ≡ descentTo t b st x n g → k ≡ entryOf t b st x n g → u ≡ nameTag t x n g → m ≡ known b st → m ≤ k
+    → (b′ ≡ newList b st w u x n g) × (s ≡ newSt b st) × (v ≡ low (namesIn st))
     → (b′ ≡ symbolList t b st x n g) × (s ≡ symbolSt t b st x n g) × (v ≡ symbolNumber t b st x n g)
 unfolding symbolList symbolSt symbolNumber
 symbol-new t b b′ st s x n g k m v u w a q o i j d = let l = le-ltb _ _ (rw (q, i) at j) in (rw l (d .0 ∙ rw (a, o)), rw l (d .1), rw l (d .2))
 
 -- a note, an entry: it fits, it does not
-pub note-in : (l l′ : List ℕ) (st s : St) (h w v : ℕ) (f : Bool) → (l′ ≡ pick (ltb (st .notes) (length l / 4)) (four l (st .notes) h w v 0) l) × (f ≡ ltb (st .notes) (length l / 4)) → f ≡ true
-    → s ≡ withNotes st (st .notes + 1) (st .nfull) → (l′ ≡ noteList l st h w v) × (s ≡ noteSt l st)
+pub note-in : (l l′ st : List ℕ) (h w v : ℕ) (f : Bool) → (l′ ≡ pick (ltb (notesIn st) (length l / 4)) (four l (notesIn st) h w v 0) l) × (f ≡ ltb (notesIn st) (length l / 4)) → f ≡ true
+    → (l′ ≡ noteList l st h w v) × (set st 1 (notesIn st + 1) ≡ noteSt l st)
 unfolding noteList noteSt
-note-in l l′ st s h w v f e g i = (e .0, i ∙ rw (sym (e .1) ∙ g))
+note-in l l′ st h w v f e g = (e .0, rw (sym (e .1) ∙ g))
 
-pub note-out : (l l′ : List ℕ) (st s : St) (h w v : ℕ) (f : Bool) → (l′ ≡ pick (ltb (st .notes) (length l / 4)) (four l (st .notes) h w v 0) l) × (f ≡ ltb (st .notes) (length l / 4)) → f ≡ false
-    → s ≡ withNotes st (st .notes) true → (l′ ≡ noteList l st h w v) × (s ≡ noteSt l st)
+pub note-out : (l l′ st : List ℕ) (h w v : ℕ) (f : Bool) → (l′ ≡ pick (ltb (notesIn st) (length l / 4)) (four l (notesIn st) h w v 0) l) × (f ≡ ltb (notesIn st) (length l / 4)) → f ≡ false
+    → (l′ ≡ noteList l st h w v) × (set st 10 1 ≡ noteSt l st)
 unfolding noteList noteSt
-note-out l l′ st s h w v f e g i = (e .0, i ∙ rw (sym (e .1) ∙ g))
+note-out l l′ st h w v f e g = (e .0, rw (sym (e .1) ∙ g))
 
-pub entry-in : (l l′ : List ℕ) (st s : St) (h x y z : ℕ) (f : Bool) → (l′ ≡ pick (ltb (st .entries) (length l / 4)) (four l (st .entries) h x y z) l) × (f ≡ ltb (st .entries) (length l / 4)) → f ≡ true
-    → s ≡ withEntries st (st .entries + 1) (st .bfull) → (l′ ≡ entryList l st h x y z) × (s ≡ entrySt l st)
+pub entry-in : (l l′ st : List ℕ) (h x y z : ℕ) (f : Bool) → (l′ ≡ pick (ltb (entriesIn st) (length l / 4)) (four l (entriesIn st) h x y z) l) × (f ≡ ltb (entriesIn st) (length l / 4)) → f ≡ true
+    → (l′ ≡ entryList l st h x y z) × (set st 2 (entriesIn st + 1) ≡ entrySt l st)
 unfolding entryList entrySt
-entry-in l l′ st s h x y z f e g i = (e .0, i ∙ rw (sym (e .1) ∙ g))
+entry-in l l′ st h x y z f e g = (e .0, rw (sym (e .1) ∙ g))
 
-pub entry-out : (l l′ : List ℕ) (st s : St) (h x y z : ℕ) (f : Bool) → (l′ ≡ pick (ltb (st .entries) (length l / 4)) (four l (st .entries) h x y z) l) × (f ≡ ltb (st .entries) (length l / 4)) → f ≡ false
-    → s ≡ withEntries st (st .entries) true → (l′ ≡ entryList l st h x y z) × (s ≡ entrySt l st)
+pub entry-out : (l l′ st : List ℕ) (h x y z : ℕ) (f : Bool) → (l′ ≡ pick (ltb (entriesIn st) (length l / 4)) (four l (entriesIn st) h x y z) l) × (f ≡ ltb (entriesIn st) (length l / 4)) → f ≡ false
+    → (l′ ≡ entryList l st h x y z) × (set st 11 1 ≡ entrySt l st)
 unfolding entryList entrySt
-entry-out l l′ st s h x y z f e g i = (e .0, i ∙ rw (sym (e .1) ∙ g))
+entry-out l l′ st h x y z f e g = (e .0, rw (sym (e .1) ∙ g))
 
 -- a room that a callee's test found
 pub room-in : (n k : ℕ) (f : Bool) → f ≡ ltb n k → f ≡ true → n < k
@@ -273,18 +273,18 @@ unfolding part
 part-back f l p a e = ap (λ (z : List ℕ). take a l ++ z)
     (ap (λ (z : List ℕ). p ++ z) (rest-none l a) ∙ append-nil {A = ℕ} p ∙ e ∙ ap f (rest-all l a))
 
-pub rec-back : (f : List ℕ → List ℕ) (l p : List ℕ) (st : St) (k : ℕ) → k < st .records → k < length l / 5 → p ≡ f (midOf (5 * k) (length l - 5 * k) l)
+pub rec-back : (f : List ℕ → List ℕ) (l p : List ℕ) (st : List ℕ) (k : ℕ) → k < recordsIn st → k < length l / 5 → p ≡ f (midOf (5 * k) (length l - 5 * k) l)
     → putMid (5 * k) (length l - 5 * k) l p ≡ onRec f l st k
 unfolding onRec atRec
-rec-back f l p st k h i e = rw (lt-ltb k (st .records) h, lt-ltb k (length l / 5) i) (part-back f l p (5 * k) e)
+rec-back f l p st k h i e = rw (lt-ltb k (recordsIn st) h, lt-ltb k (length l / 5) i) (part-back f l p (5 * k) e)
 
-pub rec-beyond : (f : List ℕ → List ℕ) (l : List ℕ) (st : St) (k : ℕ) → k < st .records → length l / 5 ≤ k → l ≡ onRec f l st k
+pub rec-beyond : (f : List ℕ → List ℕ) (l : List ℕ) (st : List ℕ) (k : ℕ) → k < recordsIn st → length l / 5 ≤ k → l ≡ onRec f l st k
 unfolding onRec atRec
-rec-beyond f l st k h i = rw (lt-ltb k (st .records) h, le-ltb k (length l / 5) i)
+rec-beyond f l st k h i = rw (lt-ltb k (recordsIn st) h, le-ltb k (length l / 5) i)
 
-pub rec-none : (f : List ℕ → List ℕ) (l : List ℕ) (st : St) (k : ℕ) → st .records ≤ k → l ≡ onRec f l st k
+pub rec-none : (f : List ℕ → List ℕ) (l : List ℕ) (st : List ℕ) (k : ℕ) → recordsIn st ≤ k → l ≡ onRec f l st k
 unfolding onRec atRec
-rec-none f l st k h = rw (le-ltb k (st .records) h)
+rec-none f l st k h = rw (le-ltb k (recordsIn st) h)
 
 -- zeros in every place
 pub clear-step : (d s : List ℕ) (i : ℕ) → (i ≤ length d) × (length s ≡ length d) × (s ≡ replicate i 0 ++ drop i d) → i < length s
@@ -296,17 +296,20 @@ clear-end d s i v h =
     let e : i ≡ length d = omega (arith, v .1) in
     v .2 ∙ rw (e, drop-length d, append-nil {A = ℕ} (replicate (length d) 0))
 
--- a record: it fits, it does not
-pub put-in : (l : List ℕ) (st s : St) (k h w m a b c : ℕ) (r : Range) → h ≡ wordOf k (st .line) → w ≡ rangeWord r → m ≡ mostRecords (length l) → st .records < m
-    → s ≡ withRecords st (st .records + 1) (st .lfull)
-    → (set (set (set (set (set l (5 * st .records) h) (5 * st .records + 1) w) (5 * st .records + 2) a) (5 * st .records + 3) b) (5 * st .records + 4) c ≡ putRec l st k r a b c) × (s ≡ putSt l st)
-unfolding putList putSt
-put-in l st s k h w m a b c r i j e f g = let t = lt-ltb _ _ (rw e at f) in (rw (i, j, t), g ∙ rw t)
+-- a head has the low bits of its line
+pub line-head : (k l v h : ℕ) → v ≡ low l → h ≡ wordOf k v → h ≡ wordOf k l
+line-head k l v h e i = i ∙ rw e (omega arith)
 
-pub put-out : (l : List ℕ) (st s : St) (k m a b c : ℕ) (r : Range) → m ≡ mostRecords (length l) → m ≤ st .records → s ≡ withRecords st (st .records) true
-    → (l ≡ putRec l st k r a b c) × (s ≡ putSt l st)
+-- a record: it fits, it does not
+pub put-in : (l st : List ℕ) (k h w m a b c : ℕ) (r : Range) → h ≡ wordOf k (lineIn st) → w ≡ rangeWord r → m ≡ mostRecords (length l) → recordsIn st < m
+    → (set (set (set (set (set l (5 * recordsIn st) h) (5 * recordsIn st + 1) w) (5 * recordsIn st + 2) a) (5 * recordsIn st + 3) b) (5 * recordsIn st + 4) c ≡ putRec l st k r a b c)
+    × (set st 0 (recordsIn st + 1) ≡ putSt l st)
 unfolding putList putSt
-put-out l st s k m a b c r e f g = let t = le-ltb _ _ (rw e at f) in (rw t, g ∙ rw t)
+put-in l st k h w m a b c r i j e f = let t = lt-ltb _ _ (rw e at f) in (rw (i, j, t), rw t)
+
+pub put-out : (l st : List ℕ) (k m a b c : ℕ) (r : Range) → m ≡ mostRecords (length l) → m ≤ recordsIn st → (l ≡ putRec l st k r a b c) × (set st 9 1 ≡ putSt l st)
+unfolding putList putSt
+put-out l st k m a b c r e f = let t = le-ltb _ _ (rw e at f) in (rw t, rw t)
 
 -- an entry with another tag or none, and a name
 pub name-other : (t : List ℕ) (h a n x v b m y k : ℕ) → k ≡ kind h → (k ≡ v → ⊥) → false ≡ isNameEntry t h a n x v b m y
@@ -314,3 +317,12 @@ name-other t h a n x v b m y k e f = rw (ne-eqb (kind h) v (rw e at f))
 
 pub name-same : (t : List ℕ) (h a n x v b m y c k : ℕ) (f : Bool) → k ≡ kind h → k ≡ v → c ≡ sigilCode y → f ≡ sameName t a n (x % 4) b m c → f ≡ isNameEntry t h a n x v b m y
 name-same t h a n x v b m y c k f e g j i = rw (eq-eqb (kind h) v (rw e at g), ← j) i
+
+-- a note leaves the state's other numbers
+pub note-same : (l s : List ℕ) (p : ℕ) → (p ≡ 1 → ⊥) → (p ≡ 10 → ⊥) → getD (noteSt l s) p 0 ≡ getD s p 0
+unfolding noteSt
+note-same l s p h i = go (ltb (notesIn s) (length l / 4))
+  where
+    go : (c : Bool) → getD (pick c (set s 1 (notesIn s + 1)) (set s 10 1)) p 0 ≡ getD s p 0
+    go true = getD-set-other s 1 p (notesIn s + 1) 0 h
+    go false = getD-set-other s 10 p 1 0 i

@@ -1,12 +1,11 @@
--- The memory that is compiled into: three lists of words of fixed lengths, and the counts and flags of St.
+-- The memory that is compiled into: three lists of words of fixed lengths, and the numbers of the state.
 -- A put that does not fit changes no word and sets its buffer's flag, which stays.
 use mathlib.Core.List.{List, _++_}
 use mathlib.Core.Bool.{Bool, true, false}
 use Prim.Native.Nat.{ℕ, zero, suc, _+_, _*_, _-_, _/_, _%_, _^_, min}
 use lib.Dec.{ltb, eqb}
-use lib.ListN.{length, getD, set, take, drop}
+use lib.ListN.{length, getD, set, take, drop, replicate}
 use Rattle.recorder.specs.declared.word.Range.{Range}
-use Rattle.recorder.specs.declared.codegen.St.{St}
 use Rattle.recorder.specs.declared.codegen.Descent.{Descent}
 use Rattle.recorder.specs.Word.{pick, both, kind, kindAt, payloadAt, rangeAt, wordOf, rangeWord, next}
 use Rattle.recorder.specs.Name.{upper, sameName}
@@ -19,37 +18,100 @@ pub record Mem : Type 0 where
   pub list : List ℕ
   pub notes : List ℕ
   pub book : List ℕ
-  pub st : St
+  pub st : List ℕ
 
-abbrev pub mem : List ℕ → List ℕ → List ℕ → St → Mem
+abbrev pub mem : List ℕ → List ℕ → List ℕ → List ℕ → Mem
 mem l n b s = record { list = l; notes = n; book = b; st = s }
 
+-- The state's numbers, each at its place: the counts of records, notes, entries and names, the first name's entry plus 1 (0 without
+-- one), the counts of data and bytes, the current line, its first datum plus 1 (0 while it has none), and three flags: above 0 once
+-- a record, a note or an entry did not fit.
+abbrev pub stateLength : ℕ
+stateLength = 12
+
+abbrev pub atRecords : ℕ
+atRecords = 0
+
+abbrev pub atNotes : ℕ
+atNotes = 1
+
+abbrev pub atEntries : ℕ
+atEntries = 2
+
+abbrev pub atNames : ℕ
+atNames = 3
+
+abbrev pub atRoot : ℕ
+atRoot = 4
+
+abbrev pub atDatums : ℕ
+atDatums = 5
+
+abbrev pub atBytes : ℕ
+atBytes = 6
+
+abbrev pub atLine : ℕ
+atLine = 7
+
+abbrev pub atFirst : ℕ
+atFirst = 8
+
+abbrev pub atListFull : ℕ
+atListFull = 9
+
+abbrev pub atNotesFull : ℕ
+atNotesFull = 10
+
+abbrev pub atBookFull : ℕ
+atBookFull = 11
+
+abbrev pub recordsIn : List ℕ → ℕ
+recordsIn s = getD s atRecords 0
+
+abbrev pub notesIn : List ℕ → ℕ
+notesIn s = getD s atNotes 0
+
+abbrev pub entriesIn : List ℕ → ℕ
+entriesIn s = getD s atEntries 0
+
+abbrev pub namesIn : List ℕ → ℕ
+namesIn s = getD s atNames 0
+
+abbrev pub rootIn : List ℕ → ℕ
+rootIn s = getD s atRoot 0
+
+abbrev pub datumsIn : List ℕ → ℕ
+datumsIn s = getD s atDatums 0
+
+abbrev pub bytesIn : List ℕ → ℕ
+bytesIn s = getD s atBytes 0
+
+abbrev pub lineIn : List ℕ → ℕ
+lineIn s = getD s atLine 0
+
+abbrev pub firstIn : List ℕ → ℕ
+firstIn s = getD s atFirst 0
+
+abbrev pub listFull : List ℕ → Bool
+listFull s = ltb 0 (getD s atListFull 0)
+
+abbrev pub notesFull : List ℕ → Bool
+notesFull s = ltb 0 (getD s atNotesFull 0)
+
+abbrev pub bookFull : List ℕ → Bool
+bookFull s = ltb 0 (getD s atBookFull 0)
+
 -- nothing written yet
-abbrev pub nothing : St
-nothing = record { records = 0; notes = 0; entries = 0; names = 0; root = 0; datums = 0; bytes = 0; line = 0; first = 0; lfull = false; nfull = false; bfull = false }
+abbrev pub nothing : List ℕ
+nothing = replicate stateLength 0
 
 -- begin_line: the line that records and notes carry from here on, without a datum so far
-abbrev pub onLine : St → ℕ → St
-onLine s l = record { records = s .records; notes = s .notes; entries = s .entries; names = s .names; root = s .root; datums = s .datums; bytes = s .bytes; line = l; first = 0; lfull = s .lfull; nfull = s .nfull; bfull = s .bfull }
+abbrev pub onLine : List ℕ → ℕ → List ℕ
+onLine s l = set (set s atLine l) atFirst 0
 
--- one count anew, and its buffer's flag; or one kind's count
-abbrev pub withRecords : St → ℕ → Bool → St
-withRecords s n f = record { records = n; notes = s .notes; entries = s .entries; names = s .names; root = s .root; datums = s .datums; bytes = s .bytes; line = s .line; first = s .first; lfull = f; nfull = s .nfull; bfull = s .bfull }
-
-abbrev pub withNotes : St → ℕ → Bool → St
-withNotes s n f = record { records = s .records; notes = n; entries = s .entries; names = s .names; root = s .root; datums = s .datums; bytes = s .bytes; line = s .line; first = s .first; lfull = s .lfull; nfull = f; bfull = s .bfull }
-
-abbrev pub withEntries : St → ℕ → Bool → St
-withEntries s n f = record { records = s .records; notes = s .notes; entries = n; names = s .names; root = s .root; datums = s .datums; bytes = s .bytes; line = s .line; first = s .first; lfull = s .lfull; nfull = s .nfull; bfull = f }
-
-abbrev pub withNames : St → ℕ → ℕ → St
-withNames s n k = record { records = s .records; notes = s .notes; entries = s .entries; names = n; root = k; datums = s .datums; bytes = s .bytes; line = s .line; first = s .first; lfull = s .lfull; nfull = s .nfull; bfull = s .bfull }
-
-abbrev pub withData : St → ℕ → ℕ → St
-withData s n d = record { records = s .records; notes = s .notes; entries = s .entries; names = s .names; root = s .root; datums = n; bytes = s .bytes; line = s .line; first = d; lfull = s .lfull; nfull = s .nfull; bfull = s .bfull }
-
-abbrev pub withBytes : St → ℕ → St
-withBytes s n = record { records = s .records; notes = s .notes; entries = s .entries; names = s .names; root = s .root; datums = s .datums; bytes = n; line = s .line; first = s .first; lfull = s .lfull; nfull = s .nfull; bfull = s .bfull }
+-- what of a count goes into a word
+abbrev pub asWord : ℕ → ℕ
+asWord n = n % 4294967296
 
 -- the number within its kind that an entry gets: the low 24 bits of the count
 abbrev pub low : ℕ → ℕ
@@ -60,31 +122,31 @@ unfoldable pub more : ℕ → ℕ → ℕ
 more n room = pick (ltb n room) (n + 1) n
 
 -- a record: five words
-unfoldable pub putList : List ℕ → St → ℕ → ℕ → ℕ → ℕ → ℕ → List ℕ
-putList l s h r a b c = pick (ltb (s .records) (mostRecords (length l)))
-    (set (set (set (set (set l (recSize * s .records) h) (recSize * s .records + rangeWordAt) r) (recSize * s .records + argA) a) (recSize * s .records + argB) b) (recSize * s .records + argC) c) l
+unfoldable pub putList : List ℕ → List ℕ → ℕ → ℕ → ℕ → ℕ → ℕ → List ℕ
+putList l s h r a b c = pick (ltb (recordsIn s) (mostRecords (length l)))
+    (set (set (set (set (set l (recSize * recordsIn s) h) (recSize * recordsIn s + rangeWordAt) r) (recSize * recordsIn s + argA) a) (recSize * recordsIn s + argB) b) (recSize * recordsIn s + argC) c) l
 
-unfoldable pub putSt : List ℕ → St → St
-putSt l s = pick (ltb (s .records) (mostRecords (length l))) (withRecords s (s .records + 1) (s .lfull)) (withRecords s (s .records) true)
+unfoldable pub putSt : List ℕ → List ℕ → List ℕ
+putSt l s = pick (ltb (recordsIn s) (mostRecords (length l))) (set s atRecords (recordsIn s + 1)) (set s atListFull 1)
 
-abbrev pub putRec : List ℕ → St → ℕ → Range → ℕ → ℕ → ℕ → List ℕ
-putRec l s k r a b c = putList l s (wordOf k (s .line)) (rangeWord r) a b c
+abbrev pub putRec : List ℕ → List ℕ → ℕ → Range → ℕ → ℕ → ℕ → List ℕ
+putRec l s k r a b c = putList l s (wordOf k (lineIn s)) (rangeWord r) a b c
 
 -- a note, or an entry: the n-th four words
 abbrev pub four : List ℕ → ℕ → ℕ → ℕ → ℕ → ℕ → List ℕ
 four l n h x y z = set (set (set (set l (4 * n) h) (4 * n + 1) x) (4 * n + 2) y) (4 * n + 3) z
 
-unfoldable pub noteList : List ℕ → St → ℕ → ℕ → ℕ → List ℕ
-noteList l s h r v = pick (ltb (s .notes) (length l / noteSize)) (four l (s .notes) h r v 0) l
+unfoldable pub noteList : List ℕ → List ℕ → ℕ → ℕ → ℕ → List ℕ
+noteList l s h r v = pick (ltb (notesIn s) (length l / noteSize)) (four l (notesIn s) h r v 0) l
 
-unfoldable pub noteSt : List ℕ → St → St
-noteSt l s = pick (ltb (s .notes) (length l / noteSize)) (withNotes s (s .notes + 1) (s .nfull)) (withNotes s (s .notes) true)
+unfoldable pub noteSt : List ℕ → List ℕ → List ℕ
+noteSt l s = pick (ltb (notesIn s) (length l / noteSize)) (set s atNotes (notesIn s + 1)) (set s atNotesFull 1)
 
-unfoldable pub entryList : List ℕ → St → ℕ → ℕ → ℕ → ℕ → List ℕ
-entryList b s h x y z = pick (ltb (s .entries) (length b / entrySize)) (four b (s .entries) h x y z) b
+unfoldable pub entryList : List ℕ → List ℕ → ℕ → ℕ → ℕ → ℕ → List ℕ
+entryList b s h x y z = pick (ltb (entriesIn s) (length b / entrySize)) (four b (entriesIn s) h x y z) b
 
-unfoldable pub entrySt : List ℕ → St → St
-entrySt b s = pick (ltb (s .entries) (length b / entrySize)) (withEntries s (s .entries + 1) (s .bfull)) (withEntries s (s .entries) true)
+unfoldable pub entrySt : List ℕ → List ℕ → List ℕ
+entrySt b s = pick (ltb (entriesIn s) (length b / entrySize)) (set s atEntries (entriesIn s + 1)) (set s atBookFull 1)
 
 -- While compiling, the names of the book are a binary tree, gone through by the bits of a hash of the name. A name's last word has
 -- a code of its sigil in its low 2 bits, and above it, 15 bits each, the entries of its two children, later names, 0 for none.
@@ -103,8 +165,8 @@ abbrev pub withLink : Bool → ℕ → ℕ → ℕ
 withLink high w k = pick high (w % 131072 + 131072 * (k % 32768)) (w / 131072 * 131072 + 4 * (k % 32768) + w % 4)
 
 -- the entries that the book has
-abbrev pub known : List ℕ → St → ℕ
-known b s = min (s .entries) (length b / entrySize)
+abbrev pub known : List ℕ → List ℕ → ℕ
+known b s = min (entriesIn s) (length b / entrySize)
 
 -- the hash: a number of 32 bits from a name's units in upper case, its highest bit chooses the first child
 abbrev pub hashStep : ℕ → ℕ → ℕ
@@ -152,45 +214,45 @@ unfoldable pub descentFrom : List ℕ → List ℕ → ℕ → ℕ → ℕ → �
 descentFrom t b end x n g w zero = w
 descentFrom t b end x n g w (suc left) = pick (namedAt t b (w .at) x n g) w (pick (hasChild b end w) (descentFrom t b end x n g (toChild (childOf b w) w) left) w)
 
-unfoldable pub descentTo : List ℕ → List ℕ → St → ℕ → ℕ → ℕ → Descent
-descentTo t b s x n g = descentFrom t b (known b s) x n g (record { at = s .root - 1; bits = hashOf t x (sigilCode g) n }) (known b s)
+unfoldable pub descentTo : List ℕ → List ℕ → List ℕ → ℕ → ℕ → ℕ → Descent
+descentTo t b s x n g = descentFrom t b (known b s) x n g (record { at = rootIn s - 1; bits = hashOf t x (sigilCode g) n }) (known b s)
 
 -- the entry of a name; `known` if there is none
-unfoldable pub entryOf : List ℕ → List ℕ → St → ℕ → ℕ → ℕ → ℕ
+unfoldable pub entryOf : List ℕ → List ℕ → List ℕ → ℕ → ℕ → ℕ → ℕ
 entryOf t b s x n g =
-    pick (both (ltb 0 (s .root)) (both (ltb (descentTo t b s x n g .at) (known b s)) (namedAt t b (descentTo t b s x n g .at) x n g)))
+    pick (both (ltb 0 (rootIn s)) (both (ltb (descentTo t b s x n g .at) (known b s)) (namedAt t b (descentTo t b s x n g .at) x n g)))
     (descentTo t b s x n g .at)
     (lookup t b x n g (min (known b s) 32768) (known b s - 32768))
 
 -- the next entry is one that a tree may hold
-abbrev pub mayLink : List ℕ → St → Bool
-mayLink b s = both (ltb (s .entries) (length b / entrySize)) (ltb (s .entries) 32768)
+abbrev pub mayLink : List ℕ → List ℕ → Bool
+mayLink b s = both (ltb (entriesIn s) (length b / entrySize)) (ltb (entriesIn s) 32768)
 
 -- a new name, the next entry, is linked where its descent ends
 unfoldable pub linkedAt : List ℕ → ℕ → Descent → List ℕ
 linkedAt b k w = pick (ltb (w .at) (length b / entrySize)) (set b (entrySize * w .at + extraAt) (withLink (ltb 2147483647 (w .bits)) (getD b (entrySize * w .at + extraAt) 0) k)) b
 
-unfoldable pub linked : List ℕ → St → Descent → List ℕ
-linked b s w = pick (both (ltb 0 (s .root)) (mayLink b s)) (linkedAt b (s .entries) w) b
+unfoldable pub linked : List ℕ → List ℕ → Descent → List ℕ
+linked b s w = pick (both (ltb 0 (rootIn s)) (mayLink b s)) (linkedAt b (entriesIn s) w) b
 
 -- the first name of the tree plus 1, or 0
-unfoldable pub rootOf : List ℕ → St → ℕ
-rootOf b s = pick (both (eqb (s .root) 0) (mayLink b s)) (s .entries + 1) (s .root)
+unfoldable pub rootOf : List ℕ → List ℕ → ℕ
+rootOf b s = pick (both (eqb (rootIn s) 0) (mayLink b s)) (entriesIn s + 1) (rootIn s)
 
 -- a new name with the tag v, whose descent ends at w: linked, and put as the next entry
-abbrev pub newList : List ℕ → St → Descent → ℕ → ℕ → ℕ → ℕ → List ℕ
-newList b s w v x n g = entryList (linked b s w) s (wordOf v (low (s .names))) x n (sigilCode g)
+abbrev pub newList : List ℕ → List ℕ → Descent → ℕ → ℕ → ℕ → ℕ → List ℕ
+newList b s w v x n g = entryList (linked b s w) s (wordOf v (low (namesIn s))) x n (sigilCode g)
 
-abbrev pub newSt : List ℕ → St → St
-newSt b s = withNames (entrySt b s) (more (s .names) (length b / entrySize)) (rootOf b s)
+abbrev pub newSt : List ℕ → List ℕ → List ℕ
+newSt b s = set (set (entrySt b s) atNames (more (namesIn s) (length b / entrySize))) atRoot (rootOf b s)
 
-unfoldable pub symbolNumber : List ℕ → List ℕ → St → ℕ → ℕ → ℕ → ℕ
-symbolNumber t b s x n g = pick (ltb (entryOf t b s x n g) (known b s)) (payloadAt b (entrySize * entryOf t b s x n g)) (low (s .names))
+unfoldable pub symbolNumber : List ℕ → List ℕ → List ℕ → ℕ → ℕ → ℕ → ℕ
+symbolNumber t b s x n g = pick (ltb (entryOf t b s x n g) (known b s)) (payloadAt b (entrySize * entryOf t b s x n g)) (low (namesIn s))
 
-unfoldable pub symbolList : List ℕ → List ℕ → St → ℕ → ℕ → ℕ → List ℕ
+unfoldable pub symbolList : List ℕ → List ℕ → List ℕ → ℕ → ℕ → ℕ → List ℕ
 symbolList t b s x n g = pick (ltb (entryOf t b s x n g) (known b s)) b (newList b s (descentTo t b s x n g) (nameTag t x n g) x n g)
 
-unfoldable pub symbolSt : List ℕ → List ℕ → St → ℕ → ℕ → ℕ → St
+unfoldable pub symbolSt : List ℕ → List ℕ → List ℕ → ℕ → ℕ → ℕ → List ℕ
 symbolSt t b s x n g = pick (ltb (entryOf t b s x n g) (known b s)) s (newSt b s)
 
 -- closing up: a name's head has its kind again, its last word is its sigil
@@ -204,21 +266,21 @@ unfoldable pub unlinkFrom : List ℕ → ℕ → ℕ → List ℕ
 unlinkFrom b k zero = b
 unlinkFrom b k (suc left) = unlinkFrom (unlinkAt b k) (k + 1) left
 
-unfoldable pub unlinked : List ℕ → St → List ℕ
+unfoldable pub unlinked : List ℕ → List ℕ → List ℕ
 unlinked b s = unlinkFrom b 0 (known b s)
 
 -- a datum; the line's first datum is set whether it fits or not
-unfoldable pub datumList : List ℕ → St → ℕ → ℕ → ℕ → List ℕ
-datumList b s x n q = entryList b s (wordOf 51 (low (s .datums))) x n q
+unfoldable pub datumList : List ℕ → List ℕ → ℕ → ℕ → ℕ → List ℕ
+datumList b s x n q = entryList b s (wordOf 51 (low (datumsIn s))) x n q
 
-unfoldable pub datumSt : List ℕ → St → St
-datumSt b s = withData (entrySt b s) (more (s .datums) (length b / entrySize)) (firstOf (s .first) (low (s .datums)))
+unfoldable pub datumSt : List ℕ → List ℕ → List ℕ
+datumSt b s = set (set (entrySt b s) atDatums (more (datumsIn s) (length b / entrySize))) atFirst (firstOf (firstIn s) (low (datumsIn s)))
 
-unfoldable pub byteList : List ℕ → St → ℕ → ℕ → ℕ → List ℕ
-byteList b s x n v = entryList b s (wordOf 52 (low (s .bytes))) x n v
+unfoldable pub byteList : List ℕ → List ℕ → ℕ → ℕ → ℕ → List ℕ
+byteList b s x n v = entryList b s (wordOf 52 (low (bytesIn s))) x n v
 
-unfoldable pub byteSt : List ℕ → St → St
-byteSt b s = withBytes (entrySt b s) (more (s .bytes) (length b / entrySize))
+unfoldable pub byteSt : List ℕ → List ℕ → List ℕ
+byteSt b s = set (entrySt b s) atBytes (more (bytesIn s) (length b / entrySize))
 
 -- an earlier record, written as the part of the list that begins at it
 unfoldable pub part : (List ℕ → List ℕ) → List ℕ → ℕ → List ℕ
@@ -227,8 +289,8 @@ part f l at = take at l ++ f (drop at l)
 unfoldable pub atRec : (List ℕ → List ℕ) → List ℕ → ℕ → List ℕ
 atRec f l k = pick (ltb k (length l / recSize)) (part f l (recSize * k)) l
 
-unfoldable pub onRec : (List ℕ → List ℕ) → List ℕ → St → ℕ → List ℕ
-onRec f l s k = pick (ltb k (s .records)) (atRec f l k) l
+unfoldable pub onRec : (List ℕ → List ℕ) → List ℕ → List ℕ → ℕ → List ℕ
+onRec f l s k = pick (ltb k (recordsIn s)) (atRec f l k) l
 
 abbrev pub setA : ℕ → List ℕ → List ℕ
 setA v p = set p argA v
@@ -278,9 +340,9 @@ topFrom l top k (suc left) = topFrom (whileList l top k) (whileTop l top k) (k +
 pub record Passed : Type 0 where
   pub list : List ℕ
   pub notes : List ℕ
-  pub st : St
+  pub st : List ℕ
 
-abbrev pub passed : List ℕ → List ℕ → St → Passed
+abbrev pub passed : List ℕ → List ℕ → List ℕ → Passed
 passed l n s = record { list = l; notes = n; st = s }
 
 abbrev pub openStep : Passed → ℕ → Passed
@@ -294,10 +356,10 @@ openFrom p top zero = p
 openFrom p top (suc left) = pick (eqb top 0) p (openFrom (openStep p (top - 1)) (linkAt (p .list) (top - 1)) left)
 
 -- the records that the list has
-abbrev pub present : List ℕ → St → ℕ
-present l s = min (s .records) (mostRecords (length l))
+abbrev pub present : List ℕ → List ℕ → ℕ
+present l s = min (recordsIn s) (mostRecords (length l))
 
-unfoldable pub patchWhiles : List ℕ → List ℕ → St → Passed
+unfoldable pub patchWhiles : List ℕ → List ℕ → List ℕ → Passed
 patchWhiles l n s = openFrom (passed (whilesFrom l 0 0 (present l s)) n s) (topFrom l 0 0 (present l s)) (present l s)
 
 -- convert_for_loop_to_sleep: a record anew but for its line and its range
@@ -341,14 +403,14 @@ unfoldable pub delaysFrom : List ℕ → ℕ → ℕ → List ℕ
 delaysFrom l k zero = l
 delaysFrom l k (suc left) = delaysFrom (delayList l k) (k + 1) left
 
-unfoldable pub convertDelays : List ℕ → St → List ℕ
+unfoldable pub convertDelays : List ℕ → List ℕ → List ℕ
 convertDelays l s = delaysFrom l 0 (present l s)
 
 -- clean_up
 abbrev pub finish : Passed → Passed
 finish p = passed (putRec (convertDelays (p .list) (p .st)) (p .st) 2 noRange 17 0 0) (p .notes) (putSt (convertDelays (p .list) (p .st)) (p .st))
 
-unfoldable pub cleanUpAll : List ℕ → List ℕ → St → Passed
+unfoldable pub cleanUpAll : List ℕ → List ℕ → List ℕ → Passed
 cleanUpAll l n s = finish (patchWhiles l n s)
 
 -- the memory's recorder
@@ -356,17 +418,17 @@ abbrev pub memR : List ℕ → Recorder Mem
 memR t = record {
   beginLine = λ m l. mem (m .list) (m .notes) (m .book) (onLine (m .st) l);
   emit = λ m k r a b c. mem (putRec (m .list) (m .st) k r a b c) (m .notes) (m .book) (putSt (m .list) (m .st));
-  count = λ m. m .st .records;
-  note = λ m k r v. mem (m .list) (noteList (m .notes) (m .st) (wordOf k (m .st .line)) (rangeWord r) v) (m .book) (noteSt (m .notes) (m .st));
+  count = λ m. asWord (recordsIn (m .st));
+  note = λ m k r v. mem (m .list) (noteList (m .notes) (m .st) (wordOf k (lineIn (m .st))) (rangeWord r) v) (m .book) (noteSt (m .notes) (m .st));
   noteAt = λ m l k r v. mem (m .list) (noteList (m .notes) (m .st) (wordOf k l) (rangeWord r) v) (m .book) (noteSt (m .notes) (m .st));
   symbol = λ m x n g. record {
     state = mem (m .list) (m .notes) (symbolList t (m .book) (m .st) x n g) (symbolSt t (m .book) (m .st) x n g);
     number = symbolNumber t (m .book) (m .st) x n g;
   };
   datum = λ m x n q. mem (m .list) (m .notes) (datumList (m .book) (m .st) x n q) (datumSt (m .book) (m .st));
-  firstDatum = λ m. m .st .first;
+  firstDatum = λ m. asWord (firstIn (m .st));
   byte = λ m x n v. mem (m .list) (m .notes) (byteList (m .book) (m .st) x n v) (byteSt (m .book) (m .st));
-  nextByte = λ m. low (m .st .bytes);
+  nextByte = λ m. low (bytesIn (m .st));
   patch = λ m k v. mem (onRec (setA v) (m .list) (m .st) k) (m .notes) (m .book) (m .st);
   patchEnd = λ m k v. mem (onRec (setC v) (m .list) (m .st) k) (m .notes) (m .book) (m .st);
   look = λ m k. lookAt (m .list) k;

@@ -19,7 +19,7 @@ ghost use Rattle.recorder.specs.Word.{pick, both, wordOf, rangeWord};
 ghost use Rattle.recorder.specs.Name.{upper, sameUnits, sameName};
 ghost use Rattle.recorder.specs.Ideal.{firstOf};
 ghost use Rattle.recorder.specs.Layout.{entrySize, extraAt, mostRecords};
-ghost use Rattle.recorder.specs.Mem.{sigilCode, linkOf, withLink, known, namedAt, hashStep, hashOf, descentTo, linkedAt, linked, nothing, onLine, withRecords, withNotes, withEntries, withNames, withData, withBytes, four, low, more, putSt, putRec, noteList, noteSt, entryList, entrySt, isNameEntry, tagOf, nameTag, taggedAt, lookup, entryOf, newList, newSt, symbolNumber, symbolList, symbolSt, datumList, datumSt, byteList, byteSt, onRec, setA, setB, setC, settleArgs, clearArgs, lookAt};
+ghost use Rattle.recorder.specs.Mem.{sigilCode, linkOf, withLink, known, namedAt, hashStep, hashOf, descentTo, linkedAt, linked, recordsIn, entriesIn, namesIn, rootIn, bytesIn, lineIn, firstIn, onLine, asWord, four, low, more, putSt, putRec, noteList, noteSt, entryList, entrySt, isNameEntry, tagOf, nameTag, taggedAt, lookup, entryOf, newList, newSt, symbolNumber, symbolList, symbolSt, datumList, datumSt, byteList, byteSt, onRec, setA, setB, setC, settleArgs, clearArgs, lookAt};
 
 // How many words a record and an entry have; behind the head of a record stand its range and its three arguments, in an entry last
 // its extra.
@@ -37,29 +37,36 @@ pub const C: usize = 4;
 
 pub const EXTRA: usize = 3;
 
-// The counts of notes, entries and names, the first name's entry plus 1 (0 without one), the counts of data and bytes, whether
-// something did not fit, the current line with its first datum plus 1 (0 while it has none), and the count of records. What most
-// records change stands together at the end: in this order a state is copied with the fewest waits.
-pub struct St {
-    pub notes: usize,
-    pub entries: usize,
-    pub names: usize,
-    pub root: usize,
-    pub datums: usize,
-    pub bytes: usize,
-    pub lfull: bool,
-    pub nfull: bool,
-    pub bfull: bool,
-    pub line: u32,
-    pub first: u32,
-    pub records: u32,
-}
+// The state is so many numbers, lent, each with its place: the counts of records, notes, entries and names, the first name's
+// entry plus 1 (0 without one), the counts of data and bytes, the current line with its first datum plus 1 (0 while it has none),
+// and, 0 or 1, whether a record, a note or an entry did not fit. So a state is one register, and what changes is written once.
+pub const CELLS: usize = 12;
 
-// A symbol: its number among the names.
-pub struct Named {
-    pub st: St,
-    pub number: u32,
-}
+pub type St = [usize; CELLS];
+
+pub const RECORDS: usize = 0;
+
+pub const NOTES: usize = 1;
+
+pub const ENTRIES: usize = 2;
+
+pub const NAMES: usize = 3;
+
+pub const ROOT: usize = 4;
+
+pub const DATUMS: usize = 5;
+
+pub const BYTES: usize = 6;
+
+pub const LINE: usize = 7;
+
+pub const FIRST: usize = 8;
+
+pub const LIST_FULL: usize = 9;
+
+pub const NOTES_FULL: usize = 10;
+
+pub const BOOK_FULL: usize = 11;
 
 // On the descent to a name: an entry of the tree, and the bits of the name's hash that are left, the next one the highest.
 pub struct Descent {
@@ -89,156 +96,11 @@ pub struct Looked {
     pub c: u32,
 }
 
-pub fn new() -> St
-    ensures { λ r. ⌜ r ≡ nothing ⌝ }
+pub fn begin_line(st: &mut St, line: u32)
+    ensures { λ _. ⌜ now (st .exit) ≡ onLine (now (st .entry)) line ⌝ }
 {
-    St {
-        records: 0,
-        notes: 0,
-        entries: 0,
-        names: 0,
-        root: 0,
-        datums: 0,
-        bytes: 0,
-        line: 0,
-        first: 0,
-        lfull: false,
-        nfull: false,
-        bfull: false,
-    }
-}
-
-pub fn begin_line(st: St, line: u32) -> St
-    ensures { λ r. ⌜ r ≡ onLine st line ⌝ }
-{
-    St {
-        records: st.records,
-        notes: st.notes,
-        entries: st.entries,
-        names: st.names,
-        root: st.root,
-        datums: st.datums,
-        bytes: st.bytes,
-        line,
-        first: 0,
-        lfull: st.lfull,
-        nfull: st.nfull,
-        bfull: st.bfull,
-    }
-}
-
-pub fn with_records(st: St, records: u32, lfull: bool) -> St
-    ensures { λ r. ⌜ r ≡ withRecords st records lfull ⌝ }
-{
-    St {
-        records,
-        notes: st.notes,
-        entries: st.entries,
-        names: st.names,
-        root: st.root,
-        datums: st.datums,
-        bytes: st.bytes,
-        line: st.line,
-        first: st.first,
-        lfull,
-        nfull: st.nfull,
-        bfull: st.bfull,
-    }
-}
-
-pub fn with_notes(st: St, notes: usize, nfull: bool) -> St
-    ensures { λ r. ⌜ r ≡ withNotes st notes nfull ⌝ }
-{
-    St {
-        records: st.records,
-        notes,
-        entries: st.entries,
-        names: st.names,
-        root: st.root,
-        datums: st.datums,
-        bytes: st.bytes,
-        line: st.line,
-        first: st.first,
-        lfull: st.lfull,
-        nfull,
-        bfull: st.bfull,
-    }
-}
-
-pub fn with_entries(st: St, entries: usize, bfull: bool) -> St
-    ensures { λ r. ⌜ r ≡ withEntries st entries bfull ⌝ }
-{
-    St {
-        records: st.records,
-        notes: st.notes,
-        entries,
-        names: st.names,
-        root: st.root,
-        datums: st.datums,
-        bytes: st.bytes,
-        line: st.line,
-        first: st.first,
-        lfull: st.lfull,
-        nfull: st.nfull,
-        bfull,
-    }
-}
-
-pub fn with_names(st: St, names: usize, root: usize) -> St
-    ensures { λ r. ⌜ r ≡ withNames st names root ⌝ }
-{
-    St {
-        records: st.records,
-        notes: st.notes,
-        entries: st.entries,
-        names,
-        root,
-        datums: st.datums,
-        bytes: st.bytes,
-        line: st.line,
-        first: st.first,
-        lfull: st.lfull,
-        nfull: st.nfull,
-        bfull: st.bfull,
-    }
-}
-
-pub fn with_data(st: St, datums: usize, first: u32) -> St
-    ensures { λ r. ⌜ r ≡ withData st datums first ⌝ }
-{
-    St {
-        records: st.records,
-        notes: st.notes,
-        entries: st.entries,
-        names: st.names,
-        root: st.root,
-        datums,
-        bytes: st.bytes,
-        line: st.line,
-        first,
-        lfull: st.lfull,
-        nfull: st.nfull,
-        bfull: st.bfull,
-    }
-}
-
-pub fn with_bytes(st: St, bytes: usize) -> St
-    ensures { λ r. ⌜ r ≡ withBytes st bytes ⌝ }
-{
-    St {
-        records: st.records,
-        notes: st.notes,
-        entries: st.entries,
-        names: st.names,
-        root: st.root,
-        datums: st.datums,
-        bytes,
-        line: st.line,
-        first: st.first,
-        lfull: st.lfull,
-        nfull: st.nfull,
-        bfull: st.bfull,
-    }
+    st[LINE] = line as usize;
+    st[FIRST] = 0;
 }
 
 pub fn least(a: usize, b: usize) -> usize
@@ -255,11 +117,11 @@ fn less(a: usize, b: usize) -> usize
 }
 
 // So many records fit into so many words.
-pub fn most_records(words: usize) -> u32
+pub fn most_records(words: usize) -> usize
     ensures { λ r. ⌜ r ≡ mostRecords words ⌝ }
 {
     let n = words / RECORD;
-    if n < 65535 { n as u32 } else { 65535 }
+    if n < 65535 { n } else { 65535 }
 }
 
 fn low_bits(n: usize) -> u32
@@ -275,23 +137,22 @@ fn one_more(n: usize, room: usize) -> usize
 }
 
 // A record: its call, the current line, its range, three arguments.
-pub fn put(list: &mut [u32], st: St, call: u8, r: Range, a: u32, b: u32, c: u32) -> St
-    ensures { λ x. ⌜ (now (list .exit) ≡ putRec (now (list .entry)) st call r a b c) × (x ≡ putSt (now (list .entry)) st) ⌝ }
+pub fn put(list: &mut [u32], st: &mut St, call: u8, r: Range, a: u32, b: u32, c: u32)
+    ensures { λ _. ⌜ (now (list .exit) ≡ putRec (now (list .entry)) (now (st .entry)) call r a b c) × (now (st .exit) ≡ putSt (now (list .entry)) (now (st .entry))) ⌝ }
 {
-    let n = st.records;
-    let full = st.lfull;
-    let h = word_of(call, st.line);
+    let n = st[RECORDS];
+    let h = word_of(call, low_bits(st[LINE]));
     let w = range_word(r);
     if n < most_records(list.len()) {
-        let i = RECORD * (n as usize);
+        let i = RECORD * n;
         list[i] = h;
         list[i + RANGE] = w;
         list[i + A] = a;
         list[i + B] = b;
         list[i + C] = c;
-        with_records(st, n + 1, full)
+        st[RECORDS] = n + 1;
     } else {
-        with_records(st, n, true)
+        st[LIST_FULL] = 1;
     }
 }
 
@@ -311,45 +172,43 @@ fn put_four(s: &mut [u32], n: usize, h: u32, x: u32, y: u32, z: u32) -> bool
     }
 }
 
-pub fn put_note(notes: &mut [u32], st: St, h: u32, w: u32, severity: u32) -> St
-    ensures { λ x. ⌜ (now (notes .exit) ≡ noteList (now (notes .entry)) st h w severity) × (x ≡ noteSt (now (notes .entry)) st) ⌝ }
+pub fn put_note(notes: &mut [u32], st: &mut St, h: u32, w: u32, severity: u32)
+    ensures { λ _. ⌜ (now (notes .exit) ≡ noteList (now (notes .entry)) (now (st .entry)) h w severity) × (now (st .exit) ≡ noteSt (now (notes .entry)) (now (st .entry))) ⌝ }
 {
-    let n = st.notes;
-    let full = st.nfull;
+    let n = st[NOTES];
     if put_four(notes, n, h, w, severity, 0) {
-        with_notes(st, n + 1, full)
+        st[NOTES] = n + 1;
     } else {
-        with_notes(st, n, true)
+        st[NOTES_FULL] = 1;
     }
 }
 
 // A note on the current line: 1 error or 2 warning.
-pub fn note(notes: &mut [u32], st: St, class: u8, r: Range, severity: u32) -> St
-    ensures { λ x. ⌜ (now (notes .exit) ≡ noteList (now (notes .entry)) st (wordOf class (st .line)) (rangeWord r) severity) × (x ≡ noteSt (now (notes .entry)) st) ⌝ }
+pub fn note(notes: &mut [u32], st: &mut St, class: u8, r: Range, severity: u32)
+    ensures { λ _. ⌜ (now (notes .exit) ≡ noteList (now (notes .entry)) (now (st .entry)) (wordOf class (lineIn (now (st .entry)))) (rangeWord r) severity) × (now (st .exit) ≡ noteSt (now (notes .entry)) (now (st .entry))) ⌝ }
 {
-    let h = word_of(class, st.line);
+    let h = word_of(class, low_bits(st[LINE]));
     let w = range_word(r);
     put_note(notes, st, h, w, severity)
 }
 
 // A note on a line that is named.
-pub fn note_at(notes: &mut [u32], st: St, line: u32, class: u8, r: Range, severity: u32) -> St
-    ensures { λ x. ⌜ (now (notes .exit) ≡ noteList (now (notes .entry)) st (wordOf class line) (rangeWord r) severity) × (x ≡ noteSt (now (notes .entry)) st) ⌝ }
+pub fn note_at(notes: &mut [u32], st: &mut St, line: u32, class: u8, r: Range, severity: u32)
+    ensures { λ _. ⌜ (now (notes .exit) ≡ noteList (now (notes .entry)) (now (st .entry)) (wordOf class line) (rangeWord r) severity) × (now (st .exit) ≡ noteSt (now (notes .entry)) (now (st .entry))) ⌝ }
 {
     let h = word_of(class, line);
     let w = range_word(r);
     put_note(notes, st, h, w, severity)
 }
 
-fn put_entry(book: &mut [u32], st: St, h: u32, x: u32, y: u32, z: u32) -> St
-    ensures { λ r. ⌜ (now (book .exit) ≡ entryList (now (book .entry)) st h x y z) × (r ≡ entrySt (now (book .entry)) st) ⌝ }
+fn put_entry(book: &mut [u32], st: &mut St, h: u32, x: u32, y: u32, z: u32)
+    ensures { λ _. ⌜ (now (book .exit) ≡ entryList (now (book .entry)) (now (st .entry)) h x y z) × (now (st .exit) ≡ entrySt (now (book .entry)) (now (st .entry))) ⌝ }
 {
-    let n = st.entries;
-    let full = st.bfull;
+    let n = st[ENTRIES];
     if put_four(book, n, h, x, y, z) {
-        with_entries(st, n + 1, full)
+        st[ENTRIES] = n + 1;
     } else {
-        with_entries(st, n, true)
+        st[BOOK_FULL] = 1;
     }
 }
 
@@ -487,10 +346,10 @@ fn named_at(text: &[u16], book: &[u32], k: usize, tag: u8, start: u32, len: u32,
         let i = ENTRY * k;
         is_named(
             &*text,
-            word_at(&*book, i),
-            word_at(&*book, i + 1),
-            word_at(&*book, i + 2),
-            word_at(&*book, i + EXTRA),
+            book[i],
+            book[i + 1],
+            book[i + 2],
+            book[i + EXTRA],
             tag,
             start,
             len,
@@ -546,18 +405,18 @@ fn child_of(book: &[u32], at: usize, bits: u32) -> usize
     ensures { λ r. ⌜ r ≡ pick (ltb at (length (now (book .entry)) / entrySize)) (linkOf (ltb 2147483647 bits) (getD (now (book .entry)) (entrySize * at + extraAt) 0)) 0 ⌝ }
 {
     if at < book.len() / ENTRY {
-        link_of(is_high(bits), word_at(book, ENTRY * at + EXTRA)) as usize
+        link_of(is_high(bits), book[ENTRY * at + EXTRA]) as usize
     } else {
         0
     }
 }
 
 // The descent to a name, up to the name or to where it would be linked.
-fn descent_to(text: &[u16], book: &[u32], st: St, start: u32, len: u32, sigil: u32) -> Stop
-    ensures { λ r. ⌜ (r .descent ≡ descentTo (now (text .entry)) (now (book .entry)) st start len sigil) × (r .named ≡ namedAt (now (text .entry)) (now (book .entry)) (r .descent .at) start len sigil) × (r .tag ≡ nameTag (now (text .entry)) start len sigil) ⌝ }
+fn descent_to(text: &[u16], book: &[u32], st: &St, start: u32, len: u32, sigil: u32) -> Stop
+    ensures { λ r. ⌜ (r .descent ≡ descentTo (now (text .entry)) (now (book .entry)) (now (st .entry)) start len sigil) × (r .named ≡ namedAt (now (text .entry)) (now (book .entry)) (r .descent .at) start len sigil) × (r .tag ≡ nameTag (now (text .entry)) start len sigil) ⌝ }
 {
-    let end = least(st.entries, book.len() / ENTRY);
-    let mut at = less(st.root, 1);
+    let end = least(st[ENTRIES], book.len() / ENTRY);
+    let mut at = less(st[ROOT], 1);
     let hash = hash_of(&*text, start, sigil_code(sigil), len);
     let tag = tag_of(hash);
     let mut bits = hash;
@@ -601,25 +460,25 @@ fn descent_to(text: &[u16], book: &[u32], st: St, start: u32, len: u32, sigil: u
     }
 }
 
-fn may_link(st: St, room: usize) -> bool
-    ensures { λ r. ⌜ r ≡ both (ltb (st .entries) room) (ltb (st .entries) 32768) ⌝ }
+fn may_link(entries: usize, room: usize) -> bool
+    ensures { λ r. ⌜ r ≡ both (ltb entries room) (ltb entries 32768) ⌝ }
 {
-    if st.entries < room {
-        st.entries < 32768
+    if entries < room {
+        entries < 32768
     } else {
         false
     }
 }
 
-fn root_of(st: St, room: usize) -> usize
-    ensures { λ r. ⌜ r ≡ pick (both (eqb (st .root) 0) (both (ltb (st .entries) room) (ltb (st .entries) 32768))) (st .entries + 1) (st .root) ⌝ }
+fn root_of(root: usize, entries: usize, room: usize) -> usize
+    ensures { λ r. ⌜ r ≡ pick (both (eqb root 0) (both (ltb entries room) (ltb entries 32768))) (entries + 1) root ⌝ }
 {
-    if st.root == 0 {
-        if may_link(st, room) {
-            return st.entries + 1;
+    if root == 0 {
+        if may_link(entries, room) {
+            return entries + 1;
         }
     }
-    st.root
+    root
 }
 
 // A new name, linked where its descent ends.
@@ -633,12 +492,12 @@ fn link(book: &mut [u32], at: usize, bits: u32, k: usize)
 }
 
 // The same, where there is a tree and it may hold the next entry.
-fn link_next(book: &mut [u32], st: St, at: usize, bits: u32)
-    ensures { λ r. ⌜ now (book .exit) ≡ linked (now (book .entry)) st (record { at = at; bits = bits }) ⌝ }
+fn link_next(book: &mut [u32], st: &St, at: usize, bits: u32)
+    ensures { λ r. ⌜ now (book .exit) ≡ linked (now (book .entry)) (now (st .entry)) (record { at = at; bits = bits }) ⌝ }
 {
-    if 0 < st.root {
-        if may_link(st, book.len() / ENTRY) {
-            link(book, at, bits, st.entries);
+    if 0 < st[ROOT] {
+        if may_link(st[ENTRIES], book.len() / ENTRY) {
+            link(book, at, bits, st[ENTRIES]);
         }
     }
 }
@@ -660,17 +519,17 @@ fn is_reached(root: usize, known: usize, at: usize, named: bool) -> bool
 fn entry_of(
     text: &[u16],
     book: &[u32],
-    st: St,
+    st: &St,
     at: usize,
     named: bool,
     start: u32,
     len: u32,
     sigil: u32,
 ) -> usize
-    ensures { λ r. ⌜ r ≡ pick (both (ltb 0 (st .root)) (both (ltb at (known (now (book .entry)) st)) named)) at (lookup (now (text .entry)) (now (book .entry)) start len sigil (min (known (now (book .entry)) st) 32768) (known (now (book .entry)) st - 32768)) ⌝ }
+    ensures { λ r. ⌜ r ≡ pick (both (ltb 0 (rootIn (now (st .entry)))) (both (ltb at (known (now (book .entry)) (now (st .entry)))) named)) at (lookup (now (text .entry)) (now (book .entry)) start len sigil (min (known (now (book .entry)) (now (st .entry))) 32768) (known (now (book .entry)) (now (st .entry)) - 32768)) ⌝ }
 {
-    let end = least(st.entries, book.len() / ENTRY);
-    if is_reached(st.root, end, at, named) {
+    let end = least(st[ENTRIES], book.len() / ENTRY);
+    if is_reached(st[ROOT], end, at, named) {
         return at;
     }
     find(
@@ -680,14 +539,14 @@ fn entry_of(
         len,
         sigil,
         least(end, 32768),
-        st.entries,
+        st[ENTRIES],
     )
 }
 
-// The search for a name. It is apart from what makes one, so that the state is not copied where the name is known. Slices go on
-// as `&*` here and in what it calls: a copied one is written in two parts and read as one, for which the processor waits.
-fn find_symbol(text: &[u16], book: &[u32], st: St, start: u32, len: u32, sigil: u32) -> Found
-    ensures { λ r. ⌜ (r .descent ≡ descentTo (now (text .entry)) (now (book .entry)) st start len sigil) × (r .entry ≡ entryOf (now (text .entry)) (now (book .entry)) st start len sigil) × (r .tag ≡ nameTag (now (text .entry)) start len sigil) ⌝ }
+// The search for a name. Slices go on as `&*` here and in what it calls: a copied one is written in two parts and read as one, for
+// which the processor waits.
+fn find_symbol(text: &[u16], book: &[u32], st: &St, start: u32, len: u32, sigil: u32) -> Found
+    ensures { λ r. ⌜ (r .descent ≡ descentTo (now (text .entry)) (now (book .entry)) (now (st .entry)) start len sigil) × (r .entry ≡ entryOf (now (text .entry)) (now (book .entry)) (now (st .entry)) start len sigil) × (r .tag ≡ nameTag (now (text .entry)) start len sigil) ⌝ }
 {
     let stop = descent_to(&*text, &*book, st, start, len, sigil);
     let descent = stop.descent;
@@ -703,22 +562,22 @@ fn find_symbol(text: &[u16], book: &[u32], st: St, start: u32, len: u32, sigil: 
 // A new name: linked where its descent ends, and put into the book.
 fn new_symbol(
     book: &mut [u32],
-    st: St,
+    st: &mut St,
     at: usize,
     bits: u32,
     tag: u8,
     start: u32,
     len: u32,
     sigil: u32,
-) -> Named
-    ensures { λ r. ⌜ (now (book .exit) ≡ newList (now (book .entry)) st (record { at = at; bits = bits }) tag start len sigil) × (r .st ≡ newSt (now (book .entry)) st) × (r .number ≡ low (st .names)) ⌝ }
+) -> u32
+    ensures { λ r. ⌜ (now (book .exit) ≡ newList (now (book .entry)) (now (st .entry)) (record { at = at; bits = bits }) tag start len sigil) × (now (st .exit) ≡ newSt (now (book .entry)) (now (st .entry))) × (r ≡ low (namesIn (now (st .entry)))) ⌝ }
 {
     let room = book.len() / ENTRY;
     link_next(book, st, at, bits);
-    let number = low_bits(st.names);
-    let names = one_more(st.names, room);
-    let root = root_of(st, room);
-    let s = put_entry(
+    let number = low_bits(st[NAMES]);
+    let names = one_more(st[NAMES], room);
+    let root = root_of(st[ROOT], st[ENTRIES], room);
+    put_entry(
         book,
         st,
         word_of(tag, number),
@@ -726,73 +585,78 @@ fn new_symbol(
         len,
         sigil_code(sigil),
     );
-    let t = with_names(s, names, root);
-    Named { st: t, number }
+    st[NAMES] = names;
+    st[ROOT] = root;
+    number
 }
 
 // The symbol of a name, which is put into the book where it is new.
 pub fn make_symbol(
     text: &[u16],
     book: &mut [u32],
-    st: St,
+    st: &mut St,
     start: u32,
     len: u32,
     sigil: u32,
-) -> Named
-    ensures { λ r. ⌜ (now (book .exit) ≡ symbolList (now (text .entry)) (now (book .entry)) st start len sigil) × (r .st ≡ symbolSt (now (text .entry)) (now (book .entry)) st start len sigil) × (r .number ≡ symbolNumber (now (text .entry)) (now (book .entry)) st start len sigil) ⌝ }
+) -> u32
+    ensures { λ r. ⌜ (now (book .exit) ≡ symbolList (now (text .entry)) (now (book .entry)) (now (st .entry)) start len sigil) × (now (st .exit) ≡ symbolSt (now (text .entry)) (now (book .entry)) (now (st .entry)) start len sigil) × (r ≡ symbolNumber (now (text .entry)) (now (book .entry)) (now (st .entry)) start len sigil) ⌝ }
 {
     let f = find_symbol(&*text, book, st, start, len, sigil);
     let descent = f.descent;
     let k = f.entry;
-    if k < least(st.entries, book.len() / ENTRY) {
+    if k < least(st[ENTRIES], book.len() / ENTRY) {
         let found = payload_at(book, ENTRY * k);
-        return Named { st, number: found };
+        return found;
     }
     new_symbol(book, st, descent.at, descent.bits, f.tag, start, len, sigil)
 }
 
-fn first_of(first: u32, n: usize) -> u32
+fn first_of(first: usize, n: usize) -> usize
     ensures { λ r. ⌜ r ≡ firstOf first (low n) ⌝ }
 {
-    if first == 0 {
-        (n % 16777216) as u32 + 1
-    } else {
-        first
-    }
+    if first == 0 { n % 16777216 + 1 } else { first }
 }
 
 // A datum: where it stands in the text, and whether it was quoted.
-pub fn emit_datum(book: &mut [u32], st: St, start: u32, len: u32, quoted: u32) -> St
-    ensures { λ r. ⌜ (now (book .exit) ≡ datumList (now (book .entry)) st start len quoted) × (r ≡ datumSt (now (book .entry)) st) ⌝ }
+pub fn emit_datum(book: &mut [u32], st: &mut St, start: u32, len: u32, quoted: u32)
+    ensures { λ _. ⌜ (now (book .exit) ≡ datumList (now (book .entry)) (now (st .entry)) start len quoted) × (now (st .exit) ≡ datumSt (now (book .entry)) (now (st .entry))) ⌝ }
 {
-    let number = low_bits(st.datums);
-    let datums = one_more(st.datums, book.len() / ENTRY);
-    let first = first_of(st.first, st.datums);
-    let s = put_entry(book, st, word_of(51, number), start, len, quoted);
-    with_data(s, datums, first)
+    let number = low_bits(st[DATUMS]);
+    let datums = one_more(st[DATUMS], book.len() / ENTRY);
+    let first = first_of(st[FIRST], st[DATUMS]);
+    put_entry(book, st, word_of(51, number), start, len, quoted);
+    st[DATUMS] = datums;
+    st[FIRST] = first;
 }
 
 // A byte of a LOAD: its literal and its value.
-pub fn load_byte(book: &mut [u32], st: St, start: u32, len: u32, value: u32) -> St
-    ensures { λ r. ⌜ (now (book .exit) ≡ byteList (now (book .entry)) st start len value) × (r ≡ byteSt (now (book .entry)) st) ⌝ }
+pub fn load_byte(book: &mut [u32], st: &mut St, start: u32, len: u32, value: u32)
+    ensures { λ _. ⌜ (now (book .exit) ≡ byteList (now (book .entry)) (now (st .entry)) start len value) × (now (st .exit) ≡ byteSt (now (book .entry)) (now (st .entry))) ⌝ }
 {
-    let number = low_bits(st.bytes);
-    let bytes = one_more(st.bytes, book.len() / ENTRY);
-    let s = put_entry(book, st, word_of(52, number), start, len, value);
-    with_bytes(s, bytes)
+    let number = low_bits(st[BYTES]);
+    let bytes = one_more(st[BYTES], book.len() / ENTRY);
+    put_entry(book, st, word_of(52, number), start, len, value);
+    st[BYTES] = bytes;
 }
 
 // The number that the next byte gets.
-pub fn next_byte(st: St) -> u32
-    ensures { λ r. ⌜ r ≡ low (st .bytes) ⌝ }
+pub fn next_byte(st: &St) -> u32
+    ensures { λ r. ⌜ r ≡ low (bytesIn (now (st .entry))) ⌝ }
 {
-    low_bits(st.bytes)
+    low_bits(st[BYTES])
 }
 
-pub fn current_addr(st: St) -> Addr
-    ensures { λ r. ⌜ r .0 ≡ st .records ⌝ }
+// The current line's first datum plus 1, 0 while it has none.
+pub fn first_datum(st: &St) -> u32
+    ensures { λ r. ⌜ r ≡ asWord (firstIn (now (st .entry))) ⌝ }
 {
-    Addr(st.records)
+    (st[FIRST] % 4294967296) as u32
+}
+
+pub fn current_addr(st: &St) -> Addr
+    ensures { λ r. ⌜ r .0 ≡ asWord (recordsIn (now (st .entry))) ⌝ }
+{
+    Addr((st[RECORDS] % 4294967296) as u32)
 }
 
 // A record's arguments, written in the part of the list that begins at the record.
@@ -835,13 +699,13 @@ fn settle_args(part: &mut [u32], v: u32)
 }
 
 // A jump's target: argument a of the record at an address.
-pub fn patch_jump_addr(list: &mut [u32], st: St, at: Addr, target: Addr)
-    ensures { λ r. ⌜ now (list .exit) ≡ onRec (setA (target .0)) (now (list .entry)) st (at .0) ⌝ }
+pub fn patch_jump_addr(list: &mut [u32], st: &St, at: Addr, target: Addr)
+    ensures { λ r. ⌜ now (list .exit) ≡ onRec (setA (target .0)) (now (list .entry)) (now (st .entry)) (at .0) ⌝ }
 {
     let k = at.0;
     let v = target.0;
-    if k < st.records {
-        let i = k as usize;
+    let i = k as usize;
+    if i < st[RECORDS] {
         if i < list.len() / RECORD {
             let from = RECORD * i;
             set_a(&mut list[from..], v);
@@ -850,13 +714,13 @@ pub fn patch_jump_addr(list: &mut [u32], st: St, at: Addr, target: Addr)
 }
 
 // A DEF's end: argument c.
-pub fn patch_def_end(list: &mut [u32], st: St, at: Addr, end: Addr)
-    ensures { λ r. ⌜ now (list .exit) ≡ onRec (setC (end .0)) (now (list .entry)) st (at .0) ⌝ }
+pub fn patch_def_end(list: &mut [u32], st: &St, at: Addr, end: Addr)
+    ensures { λ r. ⌜ now (list .exit) ≡ onRec (setC (end .0)) (now (list .entry)) (now (st .entry)) (at .0) ⌝ }
 {
     let k = at.0;
     let v = end.0;
-    if k < st.records {
-        let i = k as usize;
+    let i = k as usize;
+    if i < st[RECORDS] {
         if i < list.len() / RECORD {
             let from = RECORD * i;
             set_c(&mut list[from..], v);
@@ -864,11 +728,11 @@ pub fn patch_def_end(list: &mut [u32], st: St, at: Addr, end: Addr)
     }
 }
 
-fn settle_at(list: &mut [u32], st: St, k: u32, v: u32)
-    ensures { λ r. ⌜ now (list .exit) ≡ onRec (settleArgs v) (now (list .entry)) st k ⌝ }
+fn settle_at(list: &mut [u32], st: &St, k: u32, v: u32)
+    ensures { λ r. ⌜ now (list .exit) ≡ onRec (settleArgs v) (now (list .entry)) (now (st .entry)) k ⌝ }
 {
-    if k < st.records {
-        let i = k as usize;
+    let i = k as usize;
+    if i < st[RECORDS] {
         if i < list.len() / RECORD {
             let from = RECORD * i;
             settle_args(&mut list[from..], v);
@@ -877,26 +741,26 @@ fn settle_at(list: &mut [u32], st: St, k: u32, v: u32)
 }
 
 // A pending jump that is settled: its target, and its label is gone.
-pub fn settle(list: &mut [u32], st: St, at: Addr, target: Addr)
-    ensures { λ r. ⌜ now (list .exit) ≡ onRec (settleArgs (target .0)) (now (list .entry)) st (at .0) ⌝ }
+pub fn settle(list: &mut [u32], st: &St, at: Addr, target: Addr)
+    ensures { λ r. ⌜ now (list .exit) ≡ onRec (settleArgs (target .0)) (now (list .entry)) (now (st .entry)) (at .0) ⌝ }
 {
     settle_at(list, st, at.0, target.0)
 }
 
 // A pending RESTORE that is settled: its DATA index, and its label is gone.
-pub fn patch_datum_index(list: &mut [u32], st: St, at: Addr, index: DatumIndex)
-    ensures { λ r. ⌜ now (list .exit) ≡ onRec (settleArgs (index .0)) (now (list .entry)) st (at .0) ⌝ }
+pub fn patch_datum_index(list: &mut [u32], st: &St, at: Addr, index: DatumIndex)
+    ensures { λ r. ⌜ now (list .exit) ≡ onRec (settleArgs (index .0)) (now (list .entry)) (now (st .entry)) (at .0) ⌝ }
 {
     settle_at(list, st, at.0, index.0)
 }
 
 // One whose label is nowhere: only its label is gone.
-pub fn drop_label(list: &mut [u32], st: St, at: Addr)
-    ensures { λ r. ⌜ now (list .exit) ≡ onRec clearArgs (now (list .entry)) st (at .0) ⌝ }
+pub fn drop_label(list: &mut [u32], st: &St, at: Addr)
+    ensures { λ r. ⌜ now (list .exit) ≡ onRec clearArgs (now (list .entry)) (now (st .entry)) (at .0) ⌝ }
 {
     let k = at.0;
-    if k < st.records {
-        let i = k as usize;
+    let i = k as usize;
+    if i < st[RECORDS] {
         if i < list.len() / RECORD {
             let from = RECORD * i;
             clear_args(&mut list[from..]);
@@ -930,284 +794,284 @@ pub fn clear(s: &mut [u32])
 
 // Calls 1 to 47, by document 01's table. A target or an end that is not yet known is all ones. A pending jump or RESTORE keeps its
 // label plus 1 and the packed range of a note; an IF's jump keeps 0 and 0.
-pub fn emit_no_op(list: &mut [u32], st: St, r: Range) -> St
-    ensures { λ x. ⌜ (now (list .exit) ≡ putRec (now (list .entry)) st 1 r 0 0 0) × (x ≡ putSt (now (list .entry)) st) ⌝ }
+pub fn emit_no_op(list: &mut [u32], st: &mut St, r: Range)
+    ensures { λ _. ⌜ (now (list .exit) ≡ putRec (now (list .entry)) (now (st .entry)) 1 r 0 0 0) × (now (st .exit) ≡ putSt (now (list .entry)) (now (st .entry))) ⌝ }
 {
     put(list, st, 1, r, 0, 0, 0)
 }
 
-pub fn emit_op(list: &mut [u32], st: St, r: Range, statement: u32, count: u32) -> St
-    ensures { λ x. ⌜ (now (list .exit) ≡ putRec (now (list .entry)) st 2 r statement count 0) × (x ≡ putSt (now (list .entry)) st) ⌝ }
+pub fn emit_op(list: &mut [u32], st: &mut St, r: Range, statement: u32, count: u32)
+    ensures { λ _. ⌜ (now (list .exit) ≡ putRec (now (list .entry)) (now (st .entry)) 2 r statement count 0) × (now (st .exit) ≡ putSt (now (list .entry)) (now (st .entry))) ⌝ }
 {
     put(list, st, 2, r, statement, count, 0)
 }
 
-pub fn emit_number(list: &mut [u32], st: St, r: Range, e: u32, m: u32) -> St
-    ensures { λ x. ⌜ (now (list .exit) ≡ putRec (now (list .entry)) st 3 r e m 0) × (x ≡ putSt (now (list .entry)) st) ⌝ }
+pub fn emit_number(list: &mut [u32], st: &mut St, r: Range, e: u32, m: u32)
+    ensures { λ _. ⌜ (now (list .exit) ≡ putRec (now (list .entry)) (now (st .entry)) 3 r e m 0) × (now (st .exit) ≡ putSt (now (list .entry)) (now (st .entry))) ⌝ }
 {
     put(list, st, 3, r, e, m, 0)
 }
 
-pub fn emit_string(list: &mut [u32], st: St, r: Range, start: u32, length: u32) -> St
-    ensures { λ x. ⌜ (now (list .exit) ≡ putRec (now (list .entry)) st 4 r start length 0) × (x ≡ putSt (now (list .entry)) st) ⌝ }
+pub fn emit_string(list: &mut [u32], st: &mut St, r: Range, start: u32, length: u32)
+    ensures { λ _. ⌜ (now (list .exit) ≡ putRec (now (list .entry)) (now (st .entry)) 4 r start length 0) × (now (st .exit) ≡ putSt (now (list .entry)) (now (st .entry))) ⌝ }
 {
     put(list, st, 4, r, start, length, 0)
 }
 
-pub fn emit_var(list: &mut [u32], st: St, r: Range, symbol: u32) -> St
-    ensures { λ x. ⌜ (now (list .exit) ≡ putRec (now (list .entry)) st 5 r symbol 0 0) × (x ≡ putSt (now (list .entry)) st) ⌝ }
+pub fn emit_var(list: &mut [u32], st: &mut St, r: Range, symbol: u32)
+    ensures { λ _. ⌜ (now (list .exit) ≡ putRec (now (list .entry)) (now (st .entry)) 5 r symbol 0 0) × (now (st .exit) ≡ putSt (now (list .entry)) (now (st .entry))) ⌝ }
 {
     put(list, st, 5, r, symbol, 0, 0)
 }
 
-pub fn emit_index(list: &mut [u32], st: St, r: Range, symbol: u32, k: u32) -> St
-    ensures { λ x. ⌜ (now (list .exit) ≡ putRec (now (list .entry)) st 6 r symbol k 0) × (x ≡ putSt (now (list .entry)) st) ⌝ }
+pub fn emit_index(list: &mut [u32], st: &mut St, r: Range, symbol: u32, k: u32)
+    ensures { λ _. ⌜ (now (list .exit) ≡ putRec (now (list .entry)) (now (st .entry)) 6 r symbol k 0) × (now (st .exit) ≡ putSt (now (list .entry)) (now (st .entry))) ⌝ }
 {
     put(list, st, 6, r, symbol, k, 0)
 }
 
-pub fn emit_var_lvalue(list: &mut [u32], st: St, r: Range, symbol: u32) -> St
-    ensures { λ x. ⌜ (now (list .exit) ≡ putRec (now (list .entry)) st 7 r symbol 0 0) × (x ≡ putSt (now (list .entry)) st) ⌝ }
+pub fn emit_var_lvalue(list: &mut [u32], st: &mut St, r: Range, symbol: u32)
+    ensures { λ _. ⌜ (now (list .exit) ≡ putRec (now (list .entry)) (now (st .entry)) 7 r symbol 0 0) × (now (st .exit) ≡ putSt (now (list .entry)) (now (st .entry))) ⌝ }
 {
     put(list, st, 7, r, symbol, 0, 0)
 }
 
-pub fn emit_index_lvalue(list: &mut [u32], st: St, r: Range, symbol: u32, k: u32) -> St
-    ensures { λ x. ⌜ (now (list .exit) ≡ putRec (now (list .entry)) st 8 r symbol k 0) × (x ≡ putSt (now (list .entry)) st) ⌝ }
+pub fn emit_index_lvalue(list: &mut [u32], st: &mut St, r: Range, symbol: u32, k: u32)
+    ensures { λ _. ⌜ (now (list .exit) ≡ putRec (now (list .entry)) (now (st .entry)) 8 r symbol k 0) × (now (st .exit) ≡ putSt (now (list .entry)) (now (st .entry))) ⌝ }
 {
     put(list, st, 8, r, symbol, k, 0)
 }
 
-pub fn emit_fn_lvalue(list: &mut [u32], st: St, r: Range, function: u32, argument: u32) -> St
-    ensures { λ x. ⌜ (now (list .exit) ≡ putRec (now (list .entry)) st 9 r function argument 0) × (x ≡ putSt (now (list .entry)) st) ⌝ }
+pub fn emit_fn_lvalue(list: &mut [u32], st: &mut St, r: Range, function: u32, argument: u32)
+    ensures { λ _. ⌜ (now (list .exit) ≡ putRec (now (list .entry)) (now (st .entry)) 9 r function argument 0) × (now (st .exit) ≡ putSt (now (list .entry)) (now (st .entry))) ⌝ }
 {
     put(list, st, 9, r, function, argument, 0)
 }
 
-pub fn emit_inkey(list: &mut [u32], st: St, r: Range) -> St
-    ensures { λ x. ⌜ (now (list .exit) ≡ putRec (now (list .entry)) st 10 r 0 0 0) × (x ≡ putSt (now (list .entry)) st) ⌝ }
+pub fn emit_inkey(list: &mut [u32], st: &mut St, r: Range)
+    ensures { λ _. ⌜ (now (list .exit) ≡ putRec (now (list .entry)) (now (st .entry)) 10 r 0 0 0) × (now (st .exit) ≡ putSt (now (list .entry)) (now (st .entry))) ⌝ }
 {
     put(list, st, 10, r, 0, 0, 0)
 }
 
-pub fn emit_sys_func_call(list: &mut [u32], st: St, r: Range, kind: u32, count: u32) -> St
-    ensures { λ x. ⌜ (now (list .exit) ≡ putRec (now (list .entry)) st 11 r kind count 0) × (x ≡ putSt (now (list .entry)) st) ⌝ }
+pub fn emit_sys_func_call(list: &mut [u32], st: &mut St, r: Range, kind: u32, count: u32)
+    ensures { λ _. ⌜ (now (list .exit) ≡ putRec (now (list .entry)) (now (st .entry)) 11 r kind count 0) × (now (st .exit) ≡ putSt (now (list .entry)) (now (st .entry))) ⌝ }
 {
     put(list, st, 11, r, kind, count, 0)
 }
 
-pub fn emit_user_func_call(list: &mut [u32], st: St, r: Range, symbol: u32) -> St
-    ensures { λ x. ⌜ (now (list .exit) ≡ putRec (now (list .entry)) st 12 r symbol 0 0) × (x ≡ putSt (now (list .entry)) st) ⌝ }
+pub fn emit_user_func_call(list: &mut [u32], st: &mut St, r: Range, symbol: u32)
+    ensures { λ _. ⌜ (now (list .exit) ≡ putRec (now (list .entry)) (now (st .entry)) 12 r symbol 0 0) × (now (st .exit) ≡ putSt (now (list .entry)) (now (st .entry))) ⌝ }
 {
     put(list, st, 12, r, symbol, 0, 0)
 }
 
-pub fn emit_unary_expr(list: &mut [u32], st: St, r: Range, op: u32) -> St
-    ensures { λ x. ⌜ (now (list .exit) ≡ putRec (now (list .entry)) st 13 r op 0 0) × (x ≡ putSt (now (list .entry)) st) ⌝ }
+pub fn emit_unary_expr(list: &mut [u32], st: &mut St, r: Range, op: u32)
+    ensures { λ _. ⌜ (now (list .exit) ≡ putRec (now (list .entry)) (now (st .entry)) 13 r op 0 0) × (now (st .exit) ≡ putSt (now (list .entry)) (now (st .entry))) ⌝ }
 {
     put(list, st, 13, r, op, 0, 0)
 }
 
-pub fn emit_num_binary_expr(list: &mut [u32], st: St, r: Range, op: u32) -> St
-    ensures { λ x. ⌜ (now (list .exit) ≡ putRec (now (list .entry)) st 14 r op 0 0) × (x ≡ putSt (now (list .entry)) st) ⌝ }
+pub fn emit_num_binary_expr(list: &mut [u32], st: &mut St, r: Range, op: u32)
+    ensures { λ _. ⌜ (now (list .exit) ≡ putRec (now (list .entry)) (now (st .entry)) 14 r op 0 0) × (now (st .exit) ≡ putSt (now (list .entry)) (now (st .entry))) ⌝ }
 {
     put(list, st, 14, r, op, 0, 0)
 }
 
-pub fn emit_str_binary_expr(list: &mut [u32], st: St, r: Range, op: u32) -> St
-    ensures { λ x. ⌜ (now (list .exit) ≡ putRec (now (list .entry)) st 15 r op 0 0) × (x ≡ putSt (now (list .entry)) st) ⌝ }
+pub fn emit_str_binary_expr(list: &mut [u32], st: &mut St, r: Range, op: u32)
+    ensures { λ _. ⌜ (now (list .exit) ≡ putRec (now (list .entry)) (now (st .entry)) 15 r op 0 0) × (now (st .exit) ≡ putSt (now (list .entry)) (now (st .entry))) ⌝ }
 {
     put(list, st, 15, r, op, 0, 0)
 }
 
-pub fn emit_assign_int(list: &mut [u32], st: St, r: Range) -> St
-    ensures { λ x. ⌜ (now (list .exit) ≡ putRec (now (list .entry)) st 16 r 0 0 0) × (x ≡ putSt (now (list .entry)) st) ⌝ }
+pub fn emit_assign_int(list: &mut [u32], st: &mut St, r: Range)
+    ensures { λ _. ⌜ (now (list .exit) ≡ putRec (now (list .entry)) (now (st .entry)) 16 r 0 0 0) × (now (st .exit) ≡ putSt (now (list .entry)) (now (st .entry))) ⌝ }
 {
     put(list, st, 16, r, 0, 0, 0)
 }
 
-pub fn emit_assign_real(list: &mut [u32], st: St, r: Range) -> St
-    ensures { λ x. ⌜ (now (list .exit) ≡ putRec (now (list .entry)) st 17 r 0 0 0) × (x ≡ putSt (now (list .entry)) st) ⌝ }
+pub fn emit_assign_real(list: &mut [u32], st: &mut St, r: Range)
+    ensures { λ _. ⌜ (now (list .exit) ≡ putRec (now (list .entry)) (now (st .entry)) 17 r 0 0 0) × (now (st .exit) ≡ putSt (now (list .entry)) (now (st .entry))) ⌝ }
 {
     put(list, st, 17, r, 0, 0, 0)
 }
 
-pub fn emit_assign_str(list: &mut [u32], st: St, r: Range) -> St
-    ensures { λ x. ⌜ (now (list .exit) ≡ putRec (now (list .entry)) st 18 r 0 0 0) × (x ≡ putSt (now (list .entry)) st) ⌝ }
+pub fn emit_assign_str(list: &mut [u32], st: &mut St, r: Range)
+    ensures { λ _. ⌜ (now (list .exit) ≡ putRec (now (list .entry)) (now (st .entry)) 18 r 0 0 0) × (now (st .exit) ≡ putSt (now (list .entry)) (now (st .entry))) ⌝ }
 {
     put(list, st, 18, r, 0, 0, 0)
 }
 
-pub fn emit_jz(list: &mut [u32], st: St, r: Range) -> St
-    ensures { λ x. ⌜ (now (list .exit) ≡ putRec (now (list .entry)) st 19 r 4294967295 0 0) × (x ≡ putSt (now (list .entry)) st) ⌝ }
+pub fn emit_jz(list: &mut [u32], st: &mut St, r: Range)
+    ensures { λ _. ⌜ (now (list .exit) ≡ putRec (now (list .entry)) (now (st .entry)) 19 r 4294967295 0 0) × (now (st .exit) ≡ putSt (now (list .entry)) (now (st .entry))) ⌝ }
 {
     put(list, st, 19, r, 4294967295, 0, 0)
 }
 
-pub fn emit_goto(list: &mut [u32], st: St, r: Range, label: u32, packed: u32) -> St
-    ensures { λ x. ⌜ (now (list .exit) ≡ putRec (now (list .entry)) st 20 r 4294967295 label packed) × (x ≡ putSt (now (list .entry)) st) ⌝ }
+pub fn emit_goto(list: &mut [u32], st: &mut St, r: Range, label: u32, packed: u32)
+    ensures { λ _. ⌜ (now (list .exit) ≡ putRec (now (list .entry)) (now (st .entry)) 20 r 4294967295 label packed) × (now (st .exit) ≡ putSt (now (list .entry)) (now (st .entry))) ⌝ }
 {
     put(list, st, 20, r, 4294967295, label, packed)
 }
 
-pub fn emit_gosub(list: &mut [u32], st: St, r: Range, label: u32, packed: u32) -> St
-    ensures { λ x. ⌜ (now (list .exit) ≡ putRec (now (list .entry)) st 21 r 4294967295 label packed) × (x ≡ putSt (now (list .entry)) st) ⌝ }
+pub fn emit_gosub(list: &mut [u32], st: &mut St, r: Range, label: u32, packed: u32)
+    ensures { λ _. ⌜ (now (list .exit) ≡ putRec (now (list .entry)) (now (st .entry)) 21 r 4294967295 label packed) × (now (st .exit) ≡ putSt (now (list .entry)) (now (st .entry))) ⌝ }
 {
     put(list, st, 21, r, 4294967295, label, packed)
 }
 
-pub fn emit_on(list: &mut [u32], st: St, r: Range, count: u32) -> St
-    ensures { λ x. ⌜ (now (list .exit) ≡ putRec (now (list .entry)) st 22 r count 0 0) × (x ≡ putSt (now (list .entry)) st) ⌝ }
+pub fn emit_on(list: &mut [u32], st: &mut St, r: Range, count: u32)
+    ensures { λ _. ⌜ (now (list .exit) ≡ putRec (now (list .entry)) (now (st .entry)) 22 r count 0 0) × (now (st .exit) ≡ putSt (now (list .entry)) (now (st .entry))) ⌝ }
 {
     put(list, st, 22, r, count, 0, 0)
 }
 
-pub fn emit_for(list: &mut [u32], st: St, r: Range, symbol: u32, step: u32) -> St
-    ensures { λ x. ⌜ (now (list .exit) ≡ putRec (now (list .entry)) st 23 r symbol step 0) × (x ≡ putSt (now (list .entry)) st) ⌝ }
+pub fn emit_for(list: &mut [u32], st: &mut St, r: Range, symbol: u32, step: u32)
+    ensures { λ _. ⌜ (now (list .exit) ≡ putRec (now (list .entry)) (now (st .entry)) 23 r symbol step 0) × (now (st .exit) ≡ putSt (now (list .entry)) (now (st .entry))) ⌝ }
 {
     put(list, st, 23, r, symbol, step, 0)
 }
 
-pub fn emit_next(list: &mut [u32], st: St, r: Range, symbol: u32) -> St
-    ensures { λ x. ⌜ (now (list .exit) ≡ putRec (now (list .entry)) st 24 r symbol 0 0) × (x ≡ putSt (now (list .entry)) st) ⌝ }
+pub fn emit_next(list: &mut [u32], st: &mut St, r: Range, symbol: u32)
+    ensures { λ _. ⌜ (now (list .exit) ≡ putRec (now (list .entry)) (now (st .entry)) 24 r symbol 0 0) × (now (st .exit) ≡ putSt (now (list .entry)) (now (st .entry))) ⌝ }
 {
     put(list, st, 24, r, symbol, 0, 0)
 }
 
-pub fn emit_while(list: &mut [u32], st: St, r: Range, start: u32) -> St
-    ensures { λ x. ⌜ (now (list .exit) ≡ putRec (now (list .entry)) st 25 r start 4294967295 0) × (x ≡ putSt (now (list .entry)) st) ⌝ }
+pub fn emit_while(list: &mut [u32], st: &mut St, r: Range, start: u32)
+    ensures { λ _. ⌜ (now (list .exit) ≡ putRec (now (list .entry)) (now (st .entry)) 25 r start 4294967295 0) × (now (st .exit) ≡ putSt (now (list .entry)) (now (st .entry))) ⌝ }
 {
     put(list, st, 25, r, start, 4294967295, 0)
 }
 
-pub fn begin_def_fn(list: &mut [u32], st: St, r: Range, name: u32, parameter: u32) -> St
-    ensures { λ x. ⌜ (now (list .exit) ≡ putRec (now (list .entry)) st 26 r name parameter 4294967295) × (x ≡ putSt (now (list .entry)) st) ⌝ }
+pub fn begin_def_fn(list: &mut [u32], st: &mut St, r: Range, name: u32, parameter: u32)
+    ensures { λ _. ⌜ (now (list .exit) ≡ putRec (now (list .entry)) (now (st .entry)) 26 r name parameter 4294967295) × (now (st .exit) ≡ putSt (now (list .entry)) (now (st .entry))) ⌝ }
 {
     put(list, st, 26, r, name, parameter, 4294967295)
 }
 
-pub fn end_def_fn(list: &mut [u32], st: St, r: Range) -> St
-    ensures { λ x. ⌜ (now (list .exit) ≡ putRec (now (list .entry)) st 27 r 0 0 0) × (x ≡ putSt (now (list .entry)) st) ⌝ }
+pub fn end_def_fn(list: &mut [u32], st: &mut St, r: Range)
+    ensures { λ _. ⌜ (now (list .exit) ≡ putRec (now (list .entry)) (now (st .entry)) 27 r 0 0 0) × (now (st .exit) ≡ putSt (now (list .entry)) (now (st .entry))) ⌝ }
 {
     put(list, st, 27, r, 0, 0, 0)
 }
 
-pub fn emit_dim(list: &mut [u32], st: St, r: Range, symbol: u32, k: u32) -> St
-    ensures { λ x. ⌜ (now (list .exit) ≡ putRec (now (list .entry)) st 28 r symbol k 0) × (x ≡ putSt (now (list .entry)) st) ⌝ }
+pub fn emit_dim(list: &mut [u32], st: &mut St, r: Range, symbol: u32, k: u32)
+    ensures { λ _. ⌜ (now (list .exit) ≡ putRec (now (list .entry)) (now (st .entry)) 28 r symbol k 0) × (now (st .exit) ≡ putSt (now (list .entry)) (now (st .entry))) ⌝ }
 {
     put(list, st, 28, r, symbol, k, 0)
 }
 
-pub fn emit_field(list: &mut [u32], st: St, r: Range, count: u32) -> St
-    ensures { λ x. ⌜ (now (list .exit) ≡ putRec (now (list .entry)) st 29 r count 0 0) × (x ≡ putSt (now (list .entry)) st) ⌝ }
+pub fn emit_field(list: &mut [u32], st: &mut St, r: Range, count: u32)
+    ensures { λ _. ⌜ (now (list .exit) ≡ putRec (now (list .entry)) (now (st .entry)) 29 r count 0 0) × (now (st .exit) ≡ putSt (now (list .entry)) (now (st .entry))) ⌝ }
 {
     put(list, st, 29, r, count, 0, 0)
 }
 
-pub fn emit_read(list: &mut [u32], st: St, r: Range) -> St
-    ensures { λ x. ⌜ (now (list .exit) ≡ putRec (now (list .entry)) st 30 r 0 0 0) × (x ≡ putSt (now (list .entry)) st) ⌝ }
+pub fn emit_read(list: &mut [u32], st: &mut St, r: Range)
+    ensures { λ _. ⌜ (now (list .exit) ≡ putRec (now (list .entry)) (now (st .entry)) 30 r 0 0 0) × (now (st .exit) ≡ putSt (now (list .entry)) (now (st .entry))) ⌝ }
 {
     put(list, st, 30, r, 0, 0, 0)
 }
 
-pub fn emit_restore(list: &mut [u32], st: St, r: Range, label: u32, packed: u32) -> St
-    ensures { λ x. ⌜ (now (list .exit) ≡ putRec (now (list .entry)) st 31 r 0 label packed) × (x ≡ putSt (now (list .entry)) st) ⌝ }
+pub fn emit_restore(list: &mut [u32], st: &mut St, r: Range, label: u32, packed: u32)
+    ensures { λ _. ⌜ (now (list .exit) ≡ putRec (now (list .entry)) (now (st .entry)) 31 r 0 label packed) × (now (st .exit) ≡ putSt (now (list .entry)) (now (st .entry))) ⌝ }
 {
     put(list, st, 31, r, 0, label, packed)
 }
 
-pub fn emit_keyboard_input(list: &mut [u32], st: St, r: Range, prompt: u32, count: u32) -> St
-    ensures { λ x. ⌜ (now (list .exit) ≡ putRec (now (list .entry)) st 32 r prompt count 0) × (x ≡ putSt (now (list .entry)) st) ⌝ }
+pub fn emit_keyboard_input(list: &mut [u32], st: &mut St, r: Range, prompt: u32, count: u32)
+    ensures { λ _. ⌜ (now (list .exit) ≡ putRec (now (list .entry)) (now (st .entry)) 32 r prompt count 0) × (now (st .exit) ≡ putSt (now (list .entry)) (now (st .entry))) ⌝ }
 {
     put(list, st, 32, r, prompt, count, 0)
 }
 
-pub fn emit_file_input(list: &mut [u32], st: St, r: Range, count: u32) -> St
-    ensures { λ x. ⌜ (now (list .exit) ≡ putRec (now (list .entry)) st 33 r count 0 0) × (x ≡ putSt (now (list .entry)) st) ⌝ }
+pub fn emit_file_input(list: &mut [u32], st: &mut St, r: Range, count: u32)
+    ensures { λ _. ⌜ (now (list .exit) ≡ putRec (now (list .entry)) (now (st .entry)) 33 r count 0 0) × (now (st .exit) ≡ putSt (now (list .entry)) (now (st .entry))) ⌝ }
 {
     put(list, st, 33, r, count, 0, 0)
 }
 
-pub fn emit_open(list: &mut [u32], st: St, r: Range, mode: u32, len: u32) -> St
-    ensures { λ x. ⌜ (now (list .exit) ≡ putRec (now (list .entry)) st 34 r mode len 0) × (x ≡ putSt (now (list .entry)) st) ⌝ }
+pub fn emit_open(list: &mut [u32], st: &mut St, r: Range, mode: u32, len: u32)
+    ensures { λ _. ⌜ (now (list .exit) ≡ putRec (now (list .entry)) (now (st .entry)) 34 r mode len 0) × (now (st .exit) ≡ putSt (now (list .entry)) (now (st .entry))) ⌝ }
 {
     put(list, st, 34, r, mode, len, 0)
 }
 
-pub fn emit_load_bytes(list: &mut [u32], st: St, r: Range, first: u32, count: u32) -> St
-    ensures { λ x. ⌜ (now (list .exit) ≡ putRec (now (list .entry)) st 35 r first count 0) × (x ≡ putSt (now (list .entry)) st) ⌝ }
+pub fn emit_load_bytes(list: &mut [u32], st: &mut St, r: Range, first: u32, count: u32)
+    ensures { λ _. ⌜ (now (list .exit) ≡ putRec (now (list .entry)) (now (st .entry)) 35 r first count 0) × (now (st .exit) ≡ putSt (now (list .entry)) (now (st .entry))) ⌝ }
 {
     put(list, st, 35, r, first, count, 0)
 }
 
-pub fn emit_set_row(list: &mut [u32], st: St, r: Range) -> St
-    ensures { λ x. ⌜ (now (list .exit) ≡ putRec (now (list .entry)) st 36 r 0 0 0) × (x ≡ putSt (now (list .entry)) st) ⌝ }
+pub fn emit_set_row(list: &mut [u32], st: &mut St, r: Range)
+    ensures { λ _. ⌜ (now (list .exit) ≡ putRec (now (list .entry)) (now (st .entry)) 36 r 0 0 0) × (now (st .exit) ≡ putSt (now (list .entry)) (now (st .entry))) ⌝ }
 {
     put(list, st, 36, r, 0, 0, 0)
 }
 
-pub fn emit_set_column(list: &mut [u32], st: St, r: Range) -> St
-    ensures { λ x. ⌜ (now (list .exit) ≡ putRec (now (list .entry)) st 37 r 0 0 0) × (x ≡ putSt (now (list .entry)) st) ⌝ }
+pub fn emit_set_column(list: &mut [u32], st: &mut St, r: Range)
+    ensures { λ _. ⌜ (now (list .exit) ≡ putRec (now (list .entry)) (now (st .entry)) 37 r 0 0 0) × (now (st .exit) ≡ putSt (now (list .entry)) (now (st .entry))) ⌝ }
 {
     put(list, st, 37, r, 0, 0, 0)
 }
 
-pub fn emit_print_num(list: &mut [u32], st: St, r: Range) -> St
-    ensures { λ x. ⌜ (now (list .exit) ≡ putRec (now (list .entry)) st 38 r 0 0 0) × (x ≡ putSt (now (list .entry)) st) ⌝ }
+pub fn emit_print_num(list: &mut [u32], st: &mut St, r: Range)
+    ensures { λ _. ⌜ (now (list .exit) ≡ putRec (now (list .entry)) (now (st .entry)) 38 r 0 0 0) × (now (st .exit) ≡ putSt (now (list .entry)) (now (st .entry))) ⌝ }
 {
     put(list, st, 38, r, 0, 0, 0)
 }
 
-pub fn emit_print_str(list: &mut [u32], st: St, r: Range) -> St
-    ensures { λ x. ⌜ (now (list .exit) ≡ putRec (now (list .entry)) st 39 r 0 0 0) × (x ≡ putSt (now (list .entry)) st) ⌝ }
+pub fn emit_print_str(list: &mut [u32], st: &mut St, r: Range)
+    ensures { λ _. ⌜ (now (list .exit) ≡ putRec (now (list .entry)) (now (st .entry)) 39 r 0 0 0) × (now (st .exit) ≡ putSt (now (list .entry)) (now (st .entry))) ⌝ }
 {
     put(list, st, 39, r, 0, 0, 0)
 }
 
-pub fn emit_print_spc(list: &mut [u32], st: St, r: Range) -> St
-    ensures { λ x. ⌜ (now (list .exit) ≡ putRec (now (list .entry)) st 40 r 0 0 0) × (x ≡ putSt (now (list .entry)) st) ⌝ }
+pub fn emit_print_spc(list: &mut [u32], st: &mut St, r: Range)
+    ensures { λ _. ⌜ (now (list .exit) ≡ putRec (now (list .entry)) (now (st .entry)) 40 r 0 0 0) × (now (st .exit) ≡ putSt (now (list .entry)) (now (st .entry))) ⌝ }
 {
     put(list, st, 40, r, 0, 0, 0)
 }
 
-pub fn emit_print_tab(list: &mut [u32], st: St, r: Range) -> St
-    ensures { λ x. ⌜ (now (list .exit) ≡ putRec (now (list .entry)) st 41 r 0 0 0) × (x ≡ putSt (now (list .entry)) st) ⌝ }
+pub fn emit_print_tab(list: &mut [u32], st: &mut St, r: Range)
+    ensures { λ _. ⌜ (now (list .exit) ≡ putRec (now (list .entry)) (now (st .entry)) 41 r 0 0 0) × (now (st .exit) ≡ putSt (now (list .entry)) (now (st .entry))) ⌝ }
 {
     put(list, st, 41, r, 0, 0, 0)
 }
 
-pub fn emit_newline(list: &mut [u32], st: St, r: Range) -> St
-    ensures { λ x. ⌜ (now (list .exit) ≡ putRec (now (list .entry)) st 42 r 0 0 0) × (x ≡ putSt (now (list .entry)) st) ⌝ }
+pub fn emit_newline(list: &mut [u32], st: &mut St, r: Range)
+    ensures { λ _. ⌜ (now (list .exit) ≡ putRec (now (list .entry)) (now (st .entry)) 42 r 0 0 0) × (now (st .exit) ≡ putSt (now (list .entry)) (now (st .entry))) ⌝ }
 {
     put(list, st, 42, r, 0, 0, 0)
 }
 
-pub fn emit_flush(list: &mut [u32], st: St, r: Range) -> St
-    ensures { λ x. ⌜ (now (list .exit) ≡ putRec (now (list .entry)) st 43 r 0 0 0) × (x ≡ putSt (now (list .entry)) st) ⌝ }
+pub fn emit_flush(list: &mut [u32], st: &mut St, r: Range)
+    ensures { λ _. ⌜ (now (list .exit) ≡ putRec (now (list .entry)) (now (st .entry)) 43 r 0 0 0) × (now (st .exit) ≡ putSt (now (list .entry)) (now (st .entry))) ⌝ }
 {
     put(list, st, 43, r, 0, 0, 0)
 }
 
-pub fn emit_write_num(list: &mut [u32], st: St, r: Range, file: u32, end: u32) -> St
-    ensures { λ x. ⌜ (now (list .exit) ≡ putRec (now (list .entry)) st 44 r file end 0) × (x ≡ putSt (now (list .entry)) st) ⌝ }
+pub fn emit_write_num(list: &mut [u32], st: &mut St, r: Range, file: u32, end: u32)
+    ensures { λ _. ⌜ (now (list .exit) ≡ putRec (now (list .entry)) (now (st .entry)) 44 r file end 0) × (now (st .exit) ≡ putSt (now (list .entry)) (now (st .entry))) ⌝ }
 {
     put(list, st, 44, r, file, end, 0)
 }
 
-pub fn emit_write_str(list: &mut [u32], st: St, r: Range, file: u32, end: u32) -> St
-    ensures { λ x. ⌜ (now (list .exit) ≡ putRec (now (list .entry)) st 45 r file end 0) × (x ≡ putSt (now (list .entry)) st) ⌝ }
+pub fn emit_write_str(list: &mut [u32], st: &mut St, r: Range, file: u32, end: u32)
+    ensures { λ _. ⌜ (now (list .exit) ≡ putRec (now (list .entry)) (now (st .entry)) 45 r file end 0) × (now (st .exit) ≡ putSt (now (list .entry)) (now (st .entry))) ⌝ }
 {
     put(list, st, 45, r, file, end, 0)
 }
 
-pub fn emit_pop_num(list: &mut [u32], st: St, r: Range) -> St
-    ensures { λ x. ⌜ (now (list .exit) ≡ putRec (now (list .entry)) st 46 r 0 0 0) × (x ≡ putSt (now (list .entry)) st) ⌝ }
+pub fn emit_pop_num(list: &mut [u32], st: &mut St, r: Range)
+    ensures { λ _. ⌜ (now (list .exit) ≡ putRec (now (list .entry)) (now (st .entry)) 46 r 0 0 0) × (now (st .exit) ≡ putSt (now (list .entry)) (now (st .entry))) ⌝ }
 {
     put(list, st, 46, r, 0, 0, 0)
 }
 
-pub fn emit_pop_str(list: &mut [u32], st: St, r: Range) -> St
-    ensures { λ x. ⌜ (now (list .exit) ≡ putRec (now (list .entry)) st 47 r 0 0 0) × (x ≡ putSt (now (list .entry)) st) ⌝ }
+pub fn emit_pop_str(list: &mut [u32], st: &mut St, r: Range)
+    ensures { λ _. ⌜ (now (list .exit) ≡ putRec (now (list .entry)) (now (st .entry)) 47 r 0 0 0) × (now (st .exit) ≡ putSt (now (list .entry)) (now (st .entry))) ⌝ }
 {
     put(list, st, 47, r, 0, 0, 0)
 }

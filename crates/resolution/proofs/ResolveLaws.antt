@@ -7,14 +7,13 @@ use lib.Dec.{ltb, eqb}
 use borrow.Author.Tests.{lt-ltb, eq-eqb, ne-eqb}
 use native.Mathlib.Omega.{arith}
 use Rattle.recorder.specs.declared.word.Range.{Range}
-use Rattle.recorder.specs.declared.codegen.St.{St}
 use Rattle.recorder.specs.declared.codegen.Looked.{Looked}
 use Rattle.recorder.specs.Word.{pick, both, either, wordOf, rangeWord}
 use Rattle.recorder.specs.Recorder.{Look, unpack}
 use Rattle.recorder.specs.Ideal.{Search, missing, found}
 use Rattle.recorder.specs.Marks.{Mark, addrOf, dataOf}
 use Rattle.recorder.proofs.Bools.{both-false}
-use Rattle.recorder.specs.Mem.{Mem, mem, memR, passed, cleanUpAll, unlinked, onRec, clearArgs, settleArgs, noteList, noteSt, lookAt}
+use Rattle.recorder.specs.Mem.{Mem, mem, memR, asWord, recordsIn, passed, cleanUpAll, unlinked, onRec, clearArgs, settleArgs, noteList, noteSt, lookAt}
 use Rattle.rules.specs.Program.{Lines, settleBy, settleJump, settleRestore, resolveLabels, resolveDatumIndices, closeUp}
 use Rattle.resolution.specs.Looks.{asLook, settleWaiting}
 
@@ -27,7 +26,7 @@ jump-or call x h e = rw (ne-eqb call 20 h) e
 pub look-is : (q : Looked) (call line b c : ℕ) → (q .call ≡ call) × (q .line ≡ line) × (q .b ≡ b) × (q .c ≡ c) → record { call = call; line = line; b = b; c = c } ≡ asLook q
 look-is q call line b c p = rw (← p .0, ← p .1, ← p .2, ← p .3)
 
-pub missed : (t b : List ℕ) (l l′ n n′ : List ℕ) (s s′ : St) (k class severity : ℕ) (q : Looked) (r : Range) → l′ ≡ onRec clearArgs l s k → r ≡ unpack (q .c)
+pub missed : (t b : List ℕ) (l l′ n n′ : List ℕ) (s s′ : List ℕ) (k class severity : ℕ) (q : Looked) (r : Range) → l′ ≡ onRec clearArgs l s k → r ≡ unpack (q .c)
     → (n′ ≡ noteList n s (wordOf class (q .line)) (rangeWord r) severity) × (s′ ≡ noteSt n s) → mem l′ n′ b s′ ≡ settleBy (memR t) missing class severity k (asLook q) (mem l n b s)
 missed t b l l′ n n′ s s′ k class severity q r e h p = rw (e, p .0, p .1, h)
 
@@ -36,7 +35,7 @@ module _ (t : List ℕ) (find : ℕ → Search) (class severity k : ℕ) where
   pub still : (q : Looked) (u : Look) (m : Mem) → u ≡ asLook q → q .b ≡ 0 → m ≡ settleWaiting t find class severity k u m
   still q u m e h = rw (e, h)
 
-  pub settles : (q : Looked) (u : Look) (l l′ n b : List ℕ) (s : St) (v : ℕ) → u ≡ asLook q → (q .b ≡ 0 → ⊥) → find (q .b - 1) ≡ found v
+  pub settles : (q : Looked) (u : Look) (l l′ n b : List ℕ) (s : List ℕ) (v : ℕ) → u ≡ asLook q → (q .b ≡ 0 → ⊥) → find (q .b - 1) ≡ found v
       → l′ ≡ onRec (settleArgs v) l s k → mem l′ n b s ≡ settleWaiting t find class severity k u (mem l n b s)
   settles q u l l′ n b s v e h z p = rw (e, lt-ltb 0 (q .b) (omega arith), z, p)
 
@@ -94,15 +93,15 @@ pub indices-done : (t : List ℕ) (ms : List Mark) (k n : ℕ) (m m1 : Mem) → 
 unfolding resolveDatumIndices
 indices-done t ms k n m m1 h p = let e : n - k ≡ 0 = omega arith in inv (ap (λ (z : ℕ). resolveDatumIndices (memR t) ms k z m) e) ∙ p
 
-clean-mem : (t l l′ n n′ b b′ : List ℕ) (s s′ : St) → passed l′ n′ s′ ≡ cleanUpAll l n s → b′ ≡ unlinked b s → mem l′ n′ b′ s′ ≡ memR t .cleanUp (mem l n b s)
+clean-mem : (t l l′ n n′ b b′ : List ℕ) (s s′ : List ℕ) → passed l′ n′ s′ ≡ cleanUpAll l n s → b′ ≡ unlinked b s → mem l′ n′ b′ s′ ≡ memR t .cleanUp (mem l n b s)
 clean-mem t l l′ n n′ b b′ s s′ e f = rw (← e, f)
 
-pub closed : (t : List ℕ) (c : Lines Mem) (l n b l1 n1 l2 n2 l3 n3 b3 : List ℕ) (s s1 s2 s3 : St) → c .state ≡ mem l n b s
-    → mem l1 n1 b s1 ≡ resolveLabels (memR t) (c .marks) 0 (s .records) (mem l n b s)
-    → mem l2 n2 b s2 ≡ resolveDatumIndices (memR t) (c .marks) 0 (s1 .records) (mem l1 n1 b s1) → b3 ≡ unlinked b s2 → passed l3 n3 s3 ≡ cleanUpAll l2 n2 s2
+pub closed : (t : List ℕ) (c : Lines Mem) (l n b l1 n1 l2 n2 l3 n3 b3 : List ℕ) (s s1 s2 s3 : List ℕ) → c .state ≡ mem l n b s
+    → mem l1 n1 b s1 ≡ resolveLabels (memR t) (c .marks) 0 (asWord (recordsIn s)) (mem l n b s)
+    → mem l2 n2 b s2 ≡ resolveDatumIndices (memR t) (c .marks) 0 (asWord (recordsIn s1)) (mem l1 n1 b s1) → b3 ≡ unlinked b s2 → passed l3 n3 s3 ≡ cleanUpAll l2 n2 s2
     → mem l3 n3 b3 s3 ≡ closeUp (memR t) c
 unfolding closeUp
 closed t c l n b l1 n1 l2 n2 l3 n3 b3 s s1 s2 s3 e p1 p2 o p3 =
-    let q1 : mem l1 n1 b s1 ≡ resolveLabels (memR t) (c .marks) 0 (c .state .st .records) (c .state) = rw e p1 in
-    let q2 = p2 ∙ ap (λ (z : Mem). resolveDatumIndices (memR t) (c .marks) 0 (z .st .records) z) q1 in
+    let q1 : mem l1 n1 b s1 ≡ resolveLabels (memR t) (c .marks) 0 (memR t .count (c .state)) (c .state) = rw e p1 in
+    let q2 = p2 ∙ ap (λ (z : Mem). resolveDatumIndices (memR t) (c .marks) 0 (memR t .count z) z) q1 in
     clean-mem t l2 l3 n2 n3 b b3 s2 s3 p3 o ∙ ap (memR t .cleanUp) q2

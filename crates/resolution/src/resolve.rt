@@ -18,7 +18,7 @@ ghost use Rattle.recorder.specs.Marks.{Mark, addrOf, dataOf};
 ghost use Rattle.labels.specs.MarkWords.{targetFound, startFound};
 ghost use Rattle.labels.specs.MarksIn.{MarksIn};
 ghost use Rattle.labels.specs.Chains.{Chained};
-ghost use Rattle.recorder.specs.Mem.{Mem, mem, memR, lookAt};
+ghost use Rattle.recorder.specs.Mem.{Mem, mem, memR, asWord, recordsIn, lookAt};
 ghost use Rattle.rules.specs.Program.{Lines, settleBy, resolveLabels, resolveDatumIndices, closeUp};
 ghost use Rattle.resolution.specs.Looks.{asLook, settleWaiting};
 
@@ -66,13 +66,13 @@ fn start_of(work: &[u32], n: usize, label: u32, chains: usize) -> Start
 fn miss(
     list: &mut [u32],
     notes: &mut [u32],
-    st: St,
+    st: &mut St,
     k: u32,
     q: Looked,
     class: u8,
     severity: u32,
-) -> St
-    ensures { λ x. ⌜ ((t b : List ℕ) → mem (now (list .exit)) (now (notes .exit)) b x ≡ settleBy (memR t) missing class severity k (asLook q) (mem (now (list .entry)) (now (notes .entry)) b st)) ⌝ }
+)
+    ensures { λ _. ⌜ ((t b : List ℕ) → mem (now (list .exit)) (now (notes .exit)) b (now (st .exit)) ≡ settleBy (memR t) missing class severity k (asLook q) (mem (now (list .entry)) (now (notes .entry)) b (now (st .entry)))) ⌝ }
 {
     recorder::codegen::drop_label(list, st, Addr(k));
     let r = unpacked(q.c);
@@ -84,24 +84,24 @@ fn settle_jump(
     list: &mut [u32],
     notes: &mut [u32],
     work: &[u32],
-    st: St,
+    st: &mut St,
     k: u32,
     n: usize,
     chains: usize,
-) -> St
-    ensures { λ x. ⌜ ((t b : List ℕ) (ms : List Mark) → Chained (now (work .entry)) n chains n ms → mem (now (list .exit)) (now (notes .exit)) b x ≡ settleWaiting t (addrOf ms) 2 1 k (lookAt (now (list .entry)) k) (mem (now (list .entry)) (now (notes .entry)) b st)) ⌝ }
+)
+    ensures { λ _. ⌜ ((t b : List ℕ) (ms : List Mark) → Chained (now (work .entry)) n chains n ms → mem (now (list .exit)) (now (notes .exit)) b (now (st .exit)) ≡ settleWaiting t (addrOf ms) 2 1 k (lookAt (now (list .entry)) k) (mem (now (list .entry)) (now (notes .entry)) b (now (st .entry)))) ⌝ }
 {
     let q = recorder::codegen::look(list, Addr(k));
     let label = q.b;
     if label == 0 {
-        return st;
+        return;
     }
     let o = target_of(work, n, label - 1, chains);
     let Target::At(a) = o else {
-        return miss(list, notes, st, k, q, 2, 1);
+        miss(list, notes, st, k, q, 2, 1);
+        return;
     };
     recorder::codegen::settle(list, st, Addr(k), a);
-    st
 }
 
 // A RESTORE: its label's first datum, or "3 RESTORE target missing (warning)".
@@ -109,70 +109,68 @@ fn settle_restore(
     list: &mut [u32],
     notes: &mut [u32],
     work: &[u32],
-    st: St,
+    st: &mut St,
     k: u32,
     n: usize,
     chains: usize,
-) -> St
-    ensures { λ x. ⌜ ((t b : List ℕ) (ms : List Mark) → Chained (now (work .entry)) n chains n ms → mem (now (list .exit)) (now (notes .exit)) b x ≡ settleWaiting t (dataOf ms) 3 2 k (lookAt (now (list .entry)) k) (mem (now (list .entry)) (now (notes .entry)) b st)) ⌝ }
+)
+    ensures { λ _. ⌜ ((t b : List ℕ) (ms : List Mark) → Chained (now (work .entry)) n chains n ms → mem (now (list .exit)) (now (notes .exit)) b (now (st .exit)) ≡ settleWaiting t (dataOf ms) 3 2 k (lookAt (now (list .entry)) k) (mem (now (list .entry)) (now (notes .entry)) b (now (st .entry)))) ⌝ }
 {
     let q = recorder::codegen::look(list, Addr(k));
     let label = q.b;
     if label == 0 {
-        return st;
+        return;
     }
     let o = start_of(work, n, label - 1, chains);
     let Start::From(d) = o else {
-        return miss(list, notes, st, k, q, 3, 2);
+        miss(list, notes, st, k, q, 3, 2);
+        return;
     };
     recorder::codegen::patch_datum_index(list, st, Addr(k), d);
-    st
 }
 
 pub fn resolve_labels(
     list: &mut [u32],
     notes: &mut [u32],
     work: &[u32],
-    st: St,
+    st: &mut St,
     n: usize,
     chains: usize,
-) -> St
-    ensures { λ x. ⌜ ((t b : List ℕ) (ms : List Mark) → Chained (now (work .entry)) n chains n ms → mem (now (list .exit)) (now (notes .exit)) b x ≡ resolveLabels (memR t) ms 0 (st .records) (mem (now (list .entry)) (now (notes .entry)) b st)) ⌝ }
+)
+    ensures { λ _. ⌜ ((t b : List ℕ) (ms : List Mark) → Chained (now (work .entry)) n chains n ms → mem (now (list .exit)) (now (notes .exit)) b (now (st .exit)) ≡ resolveLabels (memR t) ms 0 (asWord (recordsIn (now (st .entry)))) (mem (now (list .entry)) (now (notes .entry)) b (now (st .entry)))) ⌝ }
 {
-    let count = st.records;
-    let mut s = st;
+    let end = recorder::codegen::current_addr(st);
+    let count = end.0;
     let mut k: u32 = 0;
     while k < count {
         let at = k;
         k += 1;
         if is_jump(call_of(list, at)) {
-            s = settle_jump(list, notes, work, s, at, n, chains);
+            settle_jump(list, notes, work, st, at, n, chains);
         }
     }
-    s
 }
 
 pub fn resolve_datum_indices(
     list: &mut [u32],
     notes: &mut [u32],
     work: &[u32],
-    st: St,
+    st: &mut St,
     n: usize,
     chains: usize,
-) -> St
-    ensures { λ x. ⌜ ((t b : List ℕ) (ms : List Mark) → Chained (now (work .entry)) n chains n ms → mem (now (list .exit)) (now (notes .exit)) b x ≡ resolveDatumIndices (memR t) ms 0 (st .records) (mem (now (list .entry)) (now (notes .entry)) b st)) ⌝ }
+)
+    ensures { λ _. ⌜ ((t b : List ℕ) (ms : List Mark) → Chained (now (work .entry)) n chains n ms → mem (now (list .exit)) (now (notes .exit)) b (now (st .exit)) ≡ resolveDatumIndices (memR t) ms 0 (asWord (recordsIn (now (st .entry)))) (mem (now (list .entry)) (now (notes .entry)) b (now (st .entry)))) ⌝ }
 {
-    let count = st.records;
-    let mut s = st;
+    let end = recorder::codegen::current_addr(st);
+    let count = end.0;
     let mut k: u32 = 0;
     while k < count {
         let at = k;
         k += 1;
         if call_of(list, at) == 31 {
-            s = settle_restore(list, notes, work, s, at, n, chains);
+            settle_restore(list, notes, work, st, at, n, chains);
         }
     }
-    s
 }
 
 // "Closing up": jumps, RESTOREs, then WHILEs, delays and End. The names' links go. The lines in work are put into chains.
@@ -181,14 +179,14 @@ pub fn close_up(
     notes: &mut [u32],
     book: &mut [u32],
     work: &mut [u32],
-    st: St,
+    st: &mut St,
     n: usize,
-) -> St
-    ensures { λ x. ⌜ ((t : List ℕ) (c : Lines Mem) → c .state ≡ mem (now (list .entry)) (now (notes .entry)) (now (book .entry)) st → MarksIn (now (work .entry)) n (c .marks) → mem (now (list .exit)) (now (notes .exit)) (now (book .exit)) x ≡ closeUp (memR t) c) ⌝ }
+)
+    ensures { λ _. ⌜ ((t : List ℕ) (c : Lines Mem) → c .state ≡ mem (now (list .entry)) (now (notes .entry)) (now (book .entry)) (now (st .entry)) → MarksIn (now (work .entry)) n (c .marks) → mem (now (list .exit)) (now (notes .exit)) (now (book .exit)) (now (st .exit)) ≡ closeUp (memR t) c) ⌝ }
 {
     let chains = labels::marks::index_lines(work, n);
-    let jumps = resolve_labels(list, notes, work, st, n, chains);
-    let restores = resolve_datum_indices(list, notes, work, jumps, n, chains);
-    closing::closing::unlink_names(book, restores);
-    closing::closing::clean_up(list, notes, restores)
+    resolve_labels(list, notes, work, st, n, chains);
+    resolve_datum_indices(list, notes, work, st, n, chains);
+    closing::closing::unlink_names(book, st);
+    closing::closing::clean_up(list, notes, st)
 }

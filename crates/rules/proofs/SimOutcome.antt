@@ -11,8 +11,8 @@ use native.Mathlib.Omega.{arith}
 use Rattle.recorder.specs.Word.{pick, either}
 use Rattle.recorder.specs.Ideal.{Ideal}
 use Rattle.recorder.specs.Layout.{noteSize, entrySize, mostRecords}
-use Rattle.recorder.specs.Mem.{Mem, mem, memR, nothing}
-use Rattle.simulation.proofs.Sim.{Held, held-count, held-full, Room}
+use Rattle.recorder.specs.Mem.{Mem, mem, memR, recordsIn, listFull, notesFull, bookFull, nothing}
+use Rattle.simulation.proofs.Sim.{Held, held-count, held-full, Room, records-held}
 use Rattle.simulation.proofs.Clean.{Done}
 use Rattle.simulation.proofs.Memory.{sim-start, memory-simulates}
 use Rattle.sheet.specs.Tree.{programAt}
@@ -31,7 +31,7 @@ memLines s t L =
 
 -- from the memory after the lines (m₁) and closed up (m₂): 9 is known before closing up, which adds one record, End
 abbrev pub memOutcome : Lengths → Mem → Mem → Outcome
-memOutcome L m₁ m₂ = pick (either (m₁ .st .lfull) (leb (mostRecords (L .list)) (m₁ .st .records))) (refused 9 0 L) (memSized L m₂)
+memOutcome L m₁ m₂ = pick (either (listFull (m₁ .st)) (leb (mostRecords (L .list)) (recordsIn (m₁ .st)))) (refused 9 0 L) (memSized L m₂)
 
 -- one more does not fit: by the count and the flag as by the rules
 held-tight : {cap n count : ℕ} {full : Bool} (k : ℕ) → Held cap n count full → k ≡ n + 1 → either full (leb cap count) ≡ ltb cap k
@@ -43,12 +43,12 @@ held-tight {cap} {count = count} {full = false} k h e = go (decLt count cap)
     go (no d) = le-leb cap count (omega arith) ∙ sym (lt-ltb cap k (omega (arith, e, held-count h refl)))
 
 -- from the count of records before closing up, which adds one, and the memory closed up where that fits
-held-sized : (L : Lengths) (i : Ideal) (n : ℕ) (m₁ m₂ : Mem) → Held (mostRecords (L .list)) n (m₁ .st .records) (m₁ .st .lfull) → length (i .records) ≡ n + 1
+held-sized : (L : Lengths) (i : Ideal) (n : ℕ) (m₁ m₂ : Mem) → Held (mostRecords (L .list)) n (recordsIn (m₁ .st)) (listFull (m₁ .st)) → length (i .records) ≡ n + 1
     → (Room (L .list) m₁ → Done (L .list) (L .notes) (L .book) i m₂) → memOutcome L m₁ m₂ ≡ sized i L
 unfolding sized
-held-sized L i n m₁ m₂ h e d = go (either (m₁ .st .lfull) (leb (mostRecords (L .list)) (m₁ .st .records))) refl
+held-sized L i n m₁ m₂ h e d = go (either (listFull (m₁ .st)) (leb (mostRecords (L .list)) (recordsIn (m₁ .st)))) refl
   where
-    fits : Done (L .list) (L .notes) (L .book) i m₂ → (a b : Bool) → m₂ .st .nfull ≡ a → m₂ .st .bfull ≡ b
+    fits : Done (L .list) (L .notes) (L .book) i m₂ → (a b : Bool) → notesFull (m₂ .st) ≡ a → bookFull (m₂ .st) ≡ b
         → memSized L m₂
         ≡ pick (ltb (L .notes / noteSize) (length (i .notes))) (refused 10 0 L) (pick (ltb (L .book / entrySize) (length (i .entries))) (refused 11 0 L) (accepted i L))
     fits q true b x y = rw (x, sym (q .noted .held .flag) ∙ x) refl
@@ -56,12 +56,12 @@ held-sized L i n m₁ m₂ h e d = go (either (m₁ .st .lfull) (leb (mostRecord
     fits q false false x y = rw (x, y, sym (q .noted .held .flag) ∙ x, sym (q .booked .held .flag) ∙ y)
         (rw (q .count, held-count (q .noted .held) x, held-count (q .booked .held) y, q .list-is y, q .noted .same x, q .booked .same y) refl)
 
-    go : (b : Bool) → either (m₁ .st .lfull) (leb (mostRecords (L .list)) (m₁ .st .records)) ≡ b → memOutcome L m₁ m₂ ≡ sized i L
+    go : (b : Bool) → either (listFull (m₁ .st)) (leb (mostRecords (L .list)) (recordsIn (m₁ .st))) ≡ b → memOutcome L m₁ m₂ ≡ sized i L
     go true x = rw (x, sym (held-tight (length (i .records)) h e) ∙ x) refl
     go false x =
-        let p = neither (m₁ .st .lfull) (leb (mostRecords (L .list)) (m₁ .st .records)) x in
+        let p = neither (listFull (m₁ .st)) (leb (mostRecords (L .list)) (recordsIn (m₁ .st))) x in
         rw (x, sym (held-tight (length (i .records)) h e) ∙ x)
-        (fits (d (p .0, leb-false (mostRecords (L .list)) (m₁ .st .records) (p .1))) (m₂ .st .nfull) (m₂ .st .bfull) refl refl)
+        (fits (d (p .0, leb-false (mostRecords (L .list)) (recordsIn (m₁ .st)) (p .1))) (notesFull (m₂ .st)) (bookFull (m₂ .st)) refl refl)
 
 -- the memory's run answers what the rules say
 pub held-outcome : (s t : List ℕ) (L : Lengths) → memOutcome L (memLines s t L .state) (closeUp (memR t) (memLines s t L)) ≡ sized (finished s t) L
@@ -70,4 +70,4 @@ held-outcome s t L =
     let σ = memory-simulates (L .list) (L .notes) (L .book) t in
     let m = sim-start t (L .list) (L .notes) (L .book) in
     held-sized L (finished s t) (length (compiled s t .state .records)) (memLines s t L .state) (closeUp (memR t) (memLines s t L))
-    (sim-lines σ t (programAt s) (sim-first σ t m) .goes .sim .listed .held) (closed-length t (compiled s t)) (sim-program σ t (programAt s) m)
+    (records-held (sim-lines σ t (programAt s) (sim-first σ t m) .goes .sim)) (closed-length t (compiled s t)) (sim-program σ t (programAt s) m)

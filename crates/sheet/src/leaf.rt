@@ -94,7 +94,7 @@ fn is_name(text: &[u16], at: usize, n: usize) -> bool
 }
 
 // Whether a range of a line holds a name.
-fn is_name_range(text: &[u16], line: Line, r: Range) -> bool
+pub fn is_name_range(text: &[u16], line: Line, r: Range) -> bool
     ensures { λ x. ⌜ x ≡ isName (now (text .entry)) (line .base + r .start) (r .end - r .start) ⌝ }
 {
     let base = line.base;

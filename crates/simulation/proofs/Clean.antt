@@ -1,5 +1,5 @@
 -- clean_up: where one more record fits, the memory is closed up as the rules say.
-use mathlib.Core.Path.{_≡_, refl, sym, ap, _∙_}
+use mathlib.Core.Path.{_≡_, refl, sym, ap, subst, _∙_}
 use mathlib.Core.List.{List, [], _∷_, _++_}
 use mathlib.Core.Bool.{Bool, true, false}
 use Prim.Native.Nat.{ℕ, zero, suc, _+_, _<_}
@@ -7,15 +7,15 @@ use lib.Dec.{ltb, eqb}
 use lib.ListN.{length, getD}
 use borrow.Author.Tests.{lt-ltb, eqb-true}
 use native.Mathlib.Omega.{arith}
-use Rattle.recorder.specs.declared.codegen.St.{St}
 use Rattle.recorder.specs.Word.{pick, choose}
-use Rattle.recorder.specs.Ideal.{Rec, rec, Note, Entry, Ideal, noRec, noRange, change, Search, missing, found}
+use Rattle.recorder.specs.Ideal.{Rec, rec, Note, Ideal, noRec, noRange, change, Search, missing, found}
 use Rattle.recorder.specs.Layout.{recWords, noteWords, entryWords, wordsOf, fill, mostRecords}
 use Rattle.recorder.specs.Closing.{isWhile, isWend, closes, opened, endFrom, endAt, closeWhiles, openNote, openNotes, isDelay, isSteppedDelay, noOp, sleep, wholeEnd, delayed, steppedDelayed, delayFrom, delays, endRec, cleanUp}
-use Rattle.recorder.specs.Mem.{Mem, mem, putRec, putSt, withNotes, Passed, passed, whilesFrom, topFrom, present, patchWhiles, convertDelays}
+use Rattle.recorder.specs.Mem.{Mem, mem, recordsIn, notesIn, entriesIn, listFull, notesFull, bookFull, asWord, putRec, putSt, Passed, passed, whilesFrom, topFrom, present, patchWhiles, convertDelays}
 use Rattle.recorder.proofs.Words.{length-snoc, change-length}
 use Rattle.simulation.proofs.Hide.{hideRec, hide, hide-false, allFresh}
-use Rattle.simulation.proofs.Sim.{Held, held-fits, held-count, Listed, listed-emit, Exact, put-form}
+use Rattle.simulation.proofs.Cells.{St, cells, flag-is, withRecords, withNotes, put-form}
+use Rattle.simulation.proofs.Sim.{Held, held-fits, held-count, Listed, listed-emit, Exact}
 use Rattle.simulation.proofs.Delays.{Holds, delays-hold}
 use Rattle.simulation.proofs.Whiles.{runP, runW, Below, below-length, notesOf, all-closed, all-noted}
 use Rattle.simulation.proofs.WhileWords.{Linked, linked, run-words, run-below, Unknown, run-unknown, Opened, open-all}
@@ -55,12 +55,12 @@ unfolding linked
 none-linked size qs l h = record { holds = h; top-is = refl }
 
 -- patch_while_instr on words
-pub whiles-are : (size N : ℕ) (rs : List Rec) (is : List Note) (l n : List ℕ) (s : St) → Holds size rs l → allFresh rs ≡ true → Exact noteWords N is n (s .notes) (s .nfull) → present l s ≡ length rs
-    → Opened size N (closeWhiles rs 0) (is ++ openNotes rs) s (patchWhiles l n s)
+pub whiles-are : (size N : ℕ) (rs : List Rec) (is : List Note) (l n : List ℕ) (s : St) → Holds size rs l → allFresh rs ≡ true → Exact noteWords N is n (s .notes) (s .nfull) → present l (cells s) ≡ length rs
+    → Opened size N (closeWhiles rs 0) (is ++ openNotes rs) s (patchWhiles l n (cells s))
 unfolding patchWhiles
 whiles-are size N rs is l n s h f x e = rw (e, ← all-closed rs, ← m)
-    (open-all size N (runP [] [] 0 rs) (runW [] 0 rs) is s (passed (whilesFrom l 0 0 (length rs)) n s) (topFrom l 0 0 (length rs)) (length rs) (length rs) w b
-    (omega (arith, ap length (all-closed rs), close-length rs 0)) (run-unknown rs [] [] 0 (none-unknown rs) refl (none-below 0) f) x refl (below-length (runW [] 0 rs) (length rs) b))
+    (open-all size N (runP [] [] 0 rs) (runW [] 0 rs) is s (passed (whilesFrom l 0 0 (length rs)) n (cells s)) (topFrom l 0 0 (length rs)) (length rs) (length rs) w b
+    (omega (arith, ap length (all-closed rs), close-length rs 0)) (run-unknown rs [] [] 0 (none-unknown rs) refl (none-below 0) f) (record { many = s .notes; full = s .nfull; exact = x; rest = refl }) (below-length (runW [] 0 rs) (length rs) b))
   where
     w : Linked size (runP [] [] 0 rs) (runW [] 0 rs) (whilesFrom l 0 0 (length rs)) (topFrom l 0 0 (length rs))
     w = run-words size rs [] [] 0 l 0 (none-linked size rs l h) refl (none-below 0)
@@ -136,18 +136,15 @@ hide-notes b (r ∷ rs) = rw (hide-notes b rs, hide-while b r, hide-end b rs 0 0
 -- The memory closed up: the list is exact if the book fits, and the book has no links.
 pub record Done (L N B : ℕ) (i : Ideal) (m : Mem) : Type 0 where
   pub long : length (m .list) ≡ L
-  pub count : length (i .records) ≡ m .st .records
-  pub fits : m .st .lfull ≡ false
-  pub list-is : m .st .bfull ≡ false → m .list ≡ fill L (wordsOf recWords (i .records))
-  pub noted : Exact noteWords N (i .notes) (m .notes) (m .st .notes) (m .st .nfull)
-  pub booked : Exact entryWords B (i .entries) (m .book) (m .st .entries) (m .st .bfull)
+  pub count : length (i .records) ≡ asWord (recordsIn (m .st))
+  pub fits : listFull (m .st) ≡ false
+  pub list-is : bookFull (m .st) ≡ false → m .list ≡ fill L (wordsOf recWords (i .records))
+  pub noted : Exact noteWords N (i .notes) (m .notes) (notesIn (m .st)) (notesFull (m .st))
+  pub booked : Exact entryWords B (i .entries) (m .book) (entriesIn (m .st)) (bookFull (m .st))
 
 -- nothing is hidden where the book fits
 pub same-records : (b : Bool) (rs is : List Rec) → b ≡ false → hide b rs ≡ hide b is → rs ≡ is
 same-records b rs is f e = sym (hide-false rs) ∙ rw f at e ∙ hide-false is
-
-booked-rest : (B : ℕ) (es : List Entry) (b : List ℕ) (u s : St) → u ≡ withNotes s (u .notes) (u .nfull) → Exact entryWords B es b (s .entries) (s .bfull) → Exact entryWords B es b (u .entries) (u .bfull)
-booked-rest B es b u s e k = rw (ap (λ (z : St). z .entries) e, ap (λ (z : St). z .bfull) e) k
 
 module _ (L N B : ℕ) (i : Ideal) (rs : List Rec) (s : St) (P : Passed) (O : Opened L N (closeWhiles rs 0) (i .notes ++ openNotes (i .records)) s P)
     (held : Held (mostRecords L) (length (i .records)) (s .records) (s .lfull)) (fit : s .lfull ≡ false) (room : s .records < mostRecords L)
@@ -158,56 +155,51 @@ module _ (L N B : ℕ) (i : Ideal) (rs : List Rec) (s : St) (P : Passed) (O : Op
   made-length : length made ≡ length (i .records)
   made-length = delays-length (length rs) 0 (closeWhiles rs 0) ∙ close-length rs 0 ∙ many
 
-  records-are : P .st .records ≡ s .records
-  records-are = ap (λ (z : St). z .records) (O .rest)
-
-  full-is : P .st .lfull ≡ false
-  full-is = ap (λ (z : St). z .lfull) (O .rest) ∙ fit
-
-  line-is : P .st .line ≡ i .line
-  line-is = ap (λ (z : St). z .line) (O .rest) ∙ sym line
-
-  book-is : P .st .bfull ≡ s .bfull
-  book-is = ap (λ (z : St). z .bfull) (O .rest)
+  -- the numbers, but for those of the notes, are as they were
+  abbrev now : St
+  now = withNotes s (O .noted .many) (O .noted .full)
 
   present-is : present (P .list) (P .st) ≡ length rs
-  present-is = omega (arith, records-are, O .holds .long, held-count held fit, held-fits held fit, many)
+  present-is = rw (O .noted .rest) (omega (arith, O .holds .long, held-count held fit, held-fits held fit, many))
 
   converted : Holds L made (convertDelays (P .list) (P .st))
   unfolding convertDelays
   converted = rw present-is (delays-hold (length rs) 0 (O .holds))
 
   -- the list before End, and with it
-  before : Listed L made (convertDelays (P .list) (P .st)) (P .st .records) (P .st .lfull) (P .st .bfull)
+  before : Listed L made (convertDelays (P .list) (P .st)) (s .records) (s .lfull) (s .bfull)
   before = record {
     long = converted .long;
-    held = rw (made-length, records-are, ap (λ (z : St). z .lfull) (O .rest)) held;
+    held = rw made-length held;
     same = λ f. record { rs = made; words-are = converted .words-are; hidden = refl };
   }
 
-  fits-in : ltb (P .st .records) (mostRecords (length (convertDelays (P .list) (P .st)))) ≡ true
-  fits-in = lt-ltb (P .st .records) (mostRecords (length (convertDelays (P .list) (P .st)))) (omega (arith, records-are, converted .long))
+  fits-in : ltb (s .records) (mostRecords (length (convertDelays (P .list) (P .st)))) ≡ true
+  fits-in = lt-ltb (s .records) (mostRecords (length (convertDelays (P .list) (P .st)))) (omega (arith, converted .long))
 
-  after : Listed L (made ++ (endRec (P .st .line) ∷ [])) (putRec (convertDelays (P .list) (P .st)) (P .st) 2 noRange 17 0 0) (P .st .records + 1) (P .st .lfull) (P .st .bfull)
-  after = rw fits-in at (listed-emit L made (convertDelays (P .list) (P .st)) (P .st) (endRec (P .st .line)) (endRec (P .st .line)) before (λ f. refl))
+  after : Listed L (made ++ (endRec (s .line) ∷ [])) (putRec (convertDelays (P .list) (P .st)) (cells now) 2 noRange 17 0 0) (s .records + 1) (s .lfull) (s .bfull)
+  after = rw fits-in at (listed-emit L made (convertDelays (P .list) (P .st)) now (endRec (s .line)) (endRec (s .line)) before (λ f. refl))
 
   pub clean-done : (b : List ℕ) → (s .bfull ≡ false → rs ≡ i .records) → Exact entryWords B (i .entries) b (s .entries) (s .bfull)
       → Done L N B (cleanUp i) (mem (putRec (convertDelays (P .list) (P .st)) (P .st) 2 noRange 17 0 0) (P .notes) b (putSt (convertDelays (P .list) (P .st)) (P .st)))
   unfolding cleanUp
   clean-done b same k =
-      let q = put-form (convertDelays (P .list) (P .st)) (P .st) in
+      let q : putSt (convertDelays (P .list) (P .st)) (P .st) ≡ cells (withRecords now (s .records + 1) (s .lfull)) =
+      ap (λ (z : List ℕ). putSt (convertDelays (P .list) (P .st)) z) (O .noted .rest) ∙ rw fits-in at (put-form (convertDelays (P .list) (P .st)) now) in
+      let a : Listed L (made ++ (endRec (s .line) ∷ [])) (putRec (convertDelays (P .list) (P .st)) (P .st) 2 noRange 17 0 0) (s .records + 1) (s .lfull) (s .bfull) =
+      subst (λ (z : List ℕ). Listed L (made ++ (endRec (s .line) ∷ [])) (putRec (convertDelays (P .list) (P .st)) z 2 noRange 17 0 0) (s .records + 1) (s .lfull) (s .bfull)) (sym (O .noted .rest)) after in
       record {
-        long = after .long;
+        long = a .long;
         count = length-snoc (delays (length (i .records)) 0 (closeWhiles (i .records) 0)) (endRec (i .line))
-            ∙ rw (q, fits-in, records-are) (omega (arith, delays-length (length (i .records)) 0 (closeWhiles (i .records) 0), close-length (i .records) 0, held-count held fit));
-        fits = rw (q, fits-in) full-is;
-        list-is = rw q (λ f.
-            let e : rs ≡ i .records = same (sym book-is ∙ f) in
-            let w = after .same full-is in
-            let u : w .rs ≡ made ++ (endRec (P .st .line) ∷ []) = same-records (P .st .bfull) (w .rs) (made ++ (endRec (P .st .line) ∷ [])) f (w .hidden) in
+            ∙ rw q (omega (arith, delays-length (length (i .records)) 0 (closeWhiles (i .records) 0), close-length (i .records) 0, held-count held fit));
+        fits = rw (q, flag-is (s .lfull)) fit;
+        list-is = rw (q, flag-is (s .bfull)) (λ f.
+            let e : rs ≡ i .records = same f in
+            let w = a .same fit in
+            let u : w .rs ≡ made ++ (endRec (s .line) ∷ []) = same-records (s .bfull) (w .rs) (made ++ (endRec (s .line) ∷ [])) f (w .hidden) in
             w .words-are ∙ ap (λ (z : List Rec). fill L (wordsOf recWords z)) u
-            ∙ ap (λ (z : ℕ). fill L (wordsOf recWords (made ++ (endRec z ∷ [])))) line-is
+            ∙ ap (λ (z : ℕ). fill L (wordsOf recWords (made ++ (endRec z ∷ [])))) (sym line)
             ∙ ap (λ (z : List Rec). fill L (wordsOf recWords (delays (length z) 0 (closeWhiles z 0) ++ (endRec (i .line) ∷ [])))) e);
-        noted = rw q (O .noted);
-        booked = rw q (booked-rest B (i .entries) b (P .st) s (O .rest) k);
+        noted = rw (q, flag-is (O .noted .full)) (O .noted .exact);
+        booked = rw (q, flag-is (s .bfull)) k;
       }

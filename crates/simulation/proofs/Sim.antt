@@ -10,14 +10,14 @@ use native.Mathlib.Decide.{decLt}
 use native.Mathlib.Numerals.{add-one}
 use native.Mathlib.Omega.{arith}
 use Rattle.recorder.specs.declared.word.Range.{Range}
-use Rattle.recorder.specs.declared.codegen.St.{St}
 use Rattle.recorder.specs.Word.{pick, kind, payloadAt, wordOf, rangeWord}
 use Rattle.recorder.specs.Ideal.{Rec, rec, noteOf, Entry, entry, Ideal, ideal, idealR, howMany, nextNumber, added, Search, missing, found, findName, symbolIn, symbolOf, change, withA, withC, settled, unlabelled, noRec, lookOf, firstOf}
 use Rattle.recorder.specs.Layout.{recWords, noteWords, entryWords, wordsOf, fill, mostRecords}
-use Rattle.recorder.specs.Mem.{Mem, mem, memR, low, more, withRecords, withNotes, withEntries, withNames, putList, putSt, four, noteList, noteSt, entryList, entrySt, sigilCode, hashOf, nameTag, withLink, known, descentTo, entryOf, linked, rootOf, unlinkFrom, unlinked, symbolNumber, symbolList, symbolSt, datumList, datumSt, byteList, byteSt, part, atRec, onRec, setA, setC, settleArgs, clearArgs, recOf, lookAt}
+use Rattle.recorder.specs.Mem.{Mem, mem, memR, recordsIn, lineIn, firstIn, listFull, bookFull, asWord, low, more, putList, four, noteList, entryList, sigilCode, hashOf, nameTag, withLink, known, descentTo, entryOf, linked, rootOf, unlinkFrom, unlinked, symbolNumber, symbolList, symbolSt, datumList, datumSt, byteList, byteSt, part, atRec, onRec, setA, setC, settleArgs, clearArgs, recOf, lookAt}
 use Rattle.recorder.proofs.Words.{head-kind, length-snoc, put5, put4, words-snoc, length-words4, length-words, change-length, change-out, change-words, squash, rec-of}
 use Rattle.recorder.proofs.Bools.{never}
 use Rattle.simulation.proofs.Hide.{fresh, hideRec, hide, hide-length, hide-snoc, hide-true, hide-at, change-hidden, blind-same, blind-a, blind-c, blind-settled, blind-unlabelled, hide-number, hide-call, hide-line, hide-c, hide-b, freshRec, allFresh, fresh-snoc, fresh-at, fresh-change}
+use Rattle.simulation.proofs.Cells.{St, cells, flag-is, withEntries, withNames, withData, withBytes, withLine, putIn, noteIn, entryIn, put-form, note-form, entry-form, Stays}
 use Rattle.simulation.proofs.Simulation.{Sigil, Looks, SameLine}
 use Rattle.simulation.proofs.Tree.{side, Tree, Linking, from-none, from-name, linking, link-code, tree-other, tree-name, linked-length, tag-high, seek-is}
 use Rattle.simulation.proofs.Book.{bare, bares, bares-length, bares-snoc, bare-name, bare-other, relink, put-entry, allSmall, small-snoc, Finds, lookup-finds, unlink-all, unlink-length}
@@ -69,12 +69,12 @@ pub record Listed (size : ℕ) (is : List Rec) (l : List ℕ) (count : ℕ) (ful
 
 pub listed-emit : (size : ℕ) (is : List Rec) (l : List ℕ) (st : St) (i j : Rec) → Listed size is l (st .records) (st .lfull) (st .bfull)
     → (st .lfull ≡ false → hideRec (st .bfull) j ≡ hideRec (st .bfull) i)
-    → Listed size (is ++ (i ∷ [])) (putList l st (wordOf (j .call) (j .line)) (rangeWord (j .range)) (j .a) (j .b) (j .c))
+    → Listed size (is ++ (i ∷ [])) (putList l (cells st) (wordOf (j .call) (j .line)) (rangeWord (j .range)) (j .a) (j .b) (j .c))
     (pick (ltb (st .records) (mostRecords (length l))) (st .records + 1) (st .records)) (pick (ltb (st .records) (mostRecords (length l))) (st .lfull) true) (st .bfull)
 unfolding putList
 listed-emit size is l st i j s e = go (decLt (length is) (mostRecords size))
   where
-    go : Dec (length is < mostRecords size) → Listed size (is ++ (i ∷ [])) (putList l st (wordOf (j .call) (j .line)) (rangeWord (j .range)) (j .a) (j .b) (j .c))
+    go : Dec (length is < mostRecords size) → Listed size (is ++ (i ∷ [])) (putList l (cells st) (wordOf (j .call) (j .line)) (rangeWord (j .range)) (j .a) (j .b) (j .c))
         (pick (ltb (st .records) (mostRecords (length l))) (st .records + 1) (st .records)) (pick (ltb (st .records) (mostRecords (length l))) (st .lfull) true) (st .bfull)
     go (yes d) = rw (s .long, held-room (s .held) d) (record {
       long = simp length-set (s .long);
@@ -108,7 +108,7 @@ at-long w h l k = go (ltb k (length l / 5))
     go true = part-long w h l (5 * k)
     go false = refl
 
-on-long : (w : List ℕ → List ℕ) → ((p : List ℕ) → length (w p) ≡ length p) → (l : List ℕ) (st : St) (k : ℕ) → length (onRec w l st k) ≡ length l
+on-long : (w : List ℕ → List ℕ) → ((p : List ℕ) → length (w p) ≡ length p) → (l : List ℕ) (st : St) (k : ℕ) → length (onRec w l (cells st) k) ≡ length l
 unfolding onRec
 on-long w h l st k = go (ltb k (st .records))
   where
@@ -128,7 +128,7 @@ at-words w g h size rs l k e n i j =
 
 on-words : (w : List ℕ → List ℕ) (g : Rec → Rec) → ((r : Rec) (ys : List ℕ) → w (recWords r ++ ys) ≡ recWords (g r) ++ ys)
     → (size : ℕ) (is : List Rec) (l : List ℕ) (st : St) (k : ℕ) → Listed size is l (st .records) (st .lfull) (st .bfull)
-    → (q : Same size l (st .bfull) is) → st .lfull ≡ false → Dec (k < length is) → onRec w l st k ≡ fill size (wordsOf recWords (change g (q .rs) k))
+    → (q : Same size l (st .bfull) is) → st .lfull ≡ false → Dec (k < length is) → onRec w l (cells st) k ≡ fill size (wordsOf recWords (change g (q .rs) k))
 unfolding onRec
 on-words w g h size is l st k s q f (yes i) =
     rw (lt-ltb k (st .records) (omega (arith, held-count (s .held) f)))
@@ -140,7 +140,7 @@ listed-change : (w : List ℕ → List ℕ) (f g : Rec → Rec) → ((r : Rec) (
     → (size : ℕ) (is : List Rec) (l : List ℕ) (st : St) (k k′ : ℕ) → Listed size is l (st .records) (st .lfull) (st .bfull)
     → (st .lfull ≡ false → k ≡ k′)
     → (st .lfull ≡ false → (r : Rec) → hideRec (st .bfull) r ≡ hideRec (st .bfull) (getD is k noRec) → hideRec (st .bfull) (g r) ≡ hideRec (st .bfull) (f (getD is k noRec)))
-    → Listed size (change f is k) (onRec w l st k′) (st .records) (st .lfull) (st .bfull)
+    → Listed size (change f is k) (onRec w l (cells st) k′) (st .records) (st .lfull) (st .bfull)
 listed-change w f g h n size is l st k k′ s e m = record {
   long = on-long w n l st k′ ∙ s .long;
   held = rw (change-length f is k) (s .held);
@@ -210,34 +210,12 @@ exact-put {A} f g size is l n full x h a b c e s = go (decLt (length is) (size /
       same = λ z. never z;
     })
 
--- St as an operation leaves it
-pub put-form : (l : List ℕ) (s : St) → putSt l s ≡ withRecords s (pick (ltb (s .records) (mostRecords (length l))) (s .records + 1) (s .records)) (pick (ltb (s .records) (mostRecords (length l))) (s .lfull) true)
-unfolding putSt
-put-form l s = go (ltb (s .records) (mostRecords (length l)))
-  where
-    go : (c : Bool) → pick c (withRecords s (s .records + 1) (s .lfull)) (withRecords s (s .records) true) ≡ withRecords s (pick c (s .records + 1) (s .records)) (pick c (s .lfull) true)
-    go true = refl
-    go false = refl
-
-pub note-form : (l : List ℕ) (s : St) → noteSt l s ≡ withNotes s (pick (ltb (s .notes) (length l / 4)) (s .notes + 1) (s .notes)) (pick (ltb (s .notes) (length l / 4)) (s .nfull) true)
-unfolding noteSt
-note-form l s = go (ltb (s .notes) (length l / 4))
-  where
-    go : (c : Bool) → pick c (withNotes s (s .notes + 1) (s .nfull)) (withNotes s (s .notes) true) ≡ withNotes s (pick c (s .notes + 1) (s .notes)) (pick c (s .nfull) true)
-    go true = refl
-    go false = refl
-
-pub entry-form : (l : List ℕ) (s : St) → entrySt l s ≡ withEntries s (pick (ltb (s .entries) (length l / 4)) (s .entries + 1) (s .entries)) (pick (ltb (s .entries) (length l / 4)) (s .bfull) true)
-unfolding entrySt
-entry-form l s = go (ltb (s .entries) (length l / 4))
-  where
-    go : (c : Bool) → pick c (withEntries s (s .entries + 1) (s .bfull)) (withEntries s (s .entries) true) ≡ withEntries s (pick c (s .entries + 1) (s .entries)) (pick c (s .bfull) true)
-    go true = refl
-    go false = refl
-
 pick-sticky : (c full : Bool) → pick c full true ≡ false → (c ≡ true) × (full ≡ false)
 pick-sticky true full e = (refl, e)
 pick-sticky false full e = never e
+
+entry-later : (b : List ℕ) (s : St) → entryIn b s .bfull ≡ false → s .bfull ≡ false
+entry-later b s f = pick-sticky (ltb (s .entries) (length b / 4)) (s .bfull) f .1
 
 -- the numbers within the kinds
 how-snoc : (k : ℕ) (es : List Entry) (e : Entry) → howMany k (es ++ (e ∷ [])) ≡ pick (eqb (e .kind) k) (suc (howMany k es)) (howMany k es)
@@ -304,7 +282,7 @@ one-counted is entries names datums bytes room e c r h = record {
     one : (k n : ℕ) → n ≡ howMany k is → n < room → pick (eqb (e .kind) k) (more n room) n ≡ pick (eqb (e .kind) k) (suc (howMany k is)) (howMany k is)
     one k n i j = rw (more-one n room j, i, add-one (howMany k is))
 
-entry-long : (b : List ℕ) (st : St) (h x y z : ℕ) → length (entryList b st h x y z) ≡ length b
+entry-long : (b : List ℕ) (st : St) (h x y z : ℕ) → length (entryList b (cells st) h x y z) ≡ length b
 unfolding entryList
 entry-long b st h x y z = go (ltb (st .entries) (length b / 4))
   where
@@ -312,7 +290,7 @@ entry-long b st h x y z = go (ltb (st .entries) (length b / 4))
     go true = simp length-set
     go false = refl
 
-entry-put : (b : List ℕ) (st : St) (h x y z : ℕ) → st .entries < length b / 4 → entryList b st h x y z ≡ four b (st .entries) h x y z
+entry-put : (b : List ℕ) (st : St) (h x y z : ℕ) → st .entries < length b / 4 → entryList b (cells st) h x y z ≡ four b (st .entries) h x y z
 unfolding entryList
 entry-put b st h x y z r = rw (lt-ltb (st .entries) (length b / 4) r)
 
@@ -335,7 +313,7 @@ module _ (t : List ℕ) (size : ℕ) (is : List Entry) (b b′ : List ℕ) (st :
     (s : Booked t size is b (st .entries) (st .names) (st .datums) (st .bytes) (st .root) (st .bfull)) (same : length b′ ≡ length b)
     (bared : bare (entry v (nextNumber k is) x y z) ≡ entry k (nextNumber k is) x y z′) where
   entry-written : st .bfull ≡ false → st .entries < length b / 4 → n ≡ howMany k is → Puts t size is b′ (st .entries) (wordOf v (nextNumber k is)) x y z root
-      → Written t size (added k is x y z′) (entryList b′ st (wordOf v (low n)) x y z) root
+      → Written t size (added k is x y z′) (entryList b′ (cells st) (wordOf v (low n)) x y z) root
   entry-written f r c p =
       let l : length is ≡ st .entries = held-count (s .held) f in
       let m : length (p .rs) ≡ st .entries = sym (bares-length (p .rs)) ∙ ap length (p .bare-are) ∙ l in
@@ -349,7 +327,7 @@ module _ (t : List ℕ) (size : ℕ) (is : List Entry) (b b′ : List ℕ) (st :
       })
 
   booked-entry : (st .bfull ≡ false → n ≡ howMany k is) → (st .bfull ≡ false → st .entries < length b / 4 → Puts t size is b′ (st .entries) (wordOf v (nextNumber k is)) x y z root)
-      → Booked t size (added k is x y z′) (entryList b′ st (wordOf v (low n)) x y z)
+      → Booked t size (added k is x y z′) (entryList b′ (cells st) (wordOf v (low n)) x y z)
       (pick (ltb (st .entries) (length b / 4)) (st .entries + 1) (st .entries))
       (pick (eqb k 50) (more (st .names) (length b / 4)) (st .names)) (pick (eqb k 51) (more (st .datums) (length b / 4)) (st .datums)) (pick (eqb k 52) (more (st .bytes) (length b / 4)) (st .bytes))
       root (pick (ltb (st .entries) (length b / 4)) (st .bfull) true)
@@ -369,7 +347,7 @@ module _ (t : List ℕ) (size : ℕ) (is : List Entry) (b b′ : List ℕ) (st :
 -- an entry that is no name
 booked-other : (t : List ℕ) (size : ℕ) (is : List Entry) (b : List ℕ) (st : St) (k n x y z : ℕ) → Booked t size is b (st .entries) (st .names) (st .datums) (st .bytes) (st .root) (st .bfull)
     → (k ≡ 50 → ⊥) → k < 128 → (st .bfull ≡ false → n ≡ howMany k is)
-    → Booked t size (added k is x y z) (entryList b st (wordOf k (low n)) x y z)
+    → Booked t size (added k is x y z) (entryList b (cells st) (wordOf k (low n)) x y z)
     (pick (ltb (st .entries) (length b / 4)) (st .entries + 1) (st .entries))
     (pick (eqb k 50) (more (st .names) (length b / 4)) (st .names)) (pick (eqb k 51) (more (st .datums) (length b / 4)) (st .datums)) (pick (eqb k 52) (more (st .bytes) (length b / 4)) (st .bytes))
     (st .root) (pick (ltb (st .entries) (length b / 4)) (st .bfull) true)
@@ -383,52 +361,58 @@ booked-other t size is b st k n x y z s e j h =
     })
 
 -- a symbol: it is found, or it is made
-symbol-kept : (t b : List ℕ) (st : St) (x n g : ℕ) → entryOf t b st x n g < known b st
-    → (symbolList t b st x n g ≡ b) × (symbolSt t b st x n g ≡ st) × (symbolNumber t b st x n g ≡ payloadAt b (4 * entryOf t b st x n g))
+symbol-kept : (t b : List ℕ) (st : St) (x n g : ℕ) → entryOf t b (cells st) x n g < known b (cells st)
+    → (symbolList t b (cells st) x n g ≡ b) × (symbolSt t b (cells st) x n g ≡ cells st) × (symbolNumber t b (cells st) x n g ≡ payloadAt b (4 * entryOf t b (cells st) x n g))
 unfolding symbolList symbolSt symbolNumber
-symbol-kept t b st x n g h = let l = lt-ltb (entryOf t b st x n g) (known b st) h in (rw l, rw l, rw l)
+symbol-kept t b st x n g h = let l = lt-ltb (entryOf t b (cells st) x n g) (known b (cells st)) h in (rw l, rw l, rw l)
 
-symbol-made : (t b : List ℕ) (st : St) (x n g : ℕ) → known b st ≤ entryOf t b st x n g
-    → (symbolList t b st x n g ≡ entryList (linked b st (descentTo t b st x n g)) st (wordOf (nameTag t x n g) (low (st .names))) x n (sigilCode g))
-    × (symbolSt t b st x n g ≡ withNames (entrySt b st) (more (st .names) (length b / 4)) (rootOf b st)) × (symbolNumber t b st x n g ≡ low (st .names))
+symbol-made : (t b : List ℕ) (st : St) (x n g : ℕ) → known b (cells st) ≤ entryOf t b (cells st) x n g
+    → (symbolList t b (cells st) x n g ≡ entryList (linked b (cells st) (descentTo t b (cells st) x n g)) (cells st) (wordOf (nameTag t x n g) (low (st .names))) x n (sigilCode g))
+    × (symbolSt t b (cells st) x n g ≡ cells (withNames (entryIn b st) (more (st .names) (length b / 4)) (rootOf b (cells st)))) × (symbolNumber t b (cells st) x n g ≡ low (st .names))
 unfolding symbolList symbolSt symbolNumber
-symbol-made t b st x n g h = let l = le-ltb (entryOf t b st x n g) (known b st) h in (rw l, rw l, rw l)
+symbol-made t b st x n g h = let l = le-ltb (entryOf t b (cells st) x n g) (known b (cells st)) h in (rw l, rw (l, entry-form b st), rw l)
 
 -- while the book fits, the search in it is the rules'
 pub record Found (t : List ℕ) (is : List Entry) (b : List ℕ) (st : St) (x n g : ℕ) : Type 0 where
-  pub known-is : known b st ≡ length is
-  pub tree : Tree t b (known b st) (st .root)
-  pub finds : Finds (findName t is x n g) (length is) (entryOf t b st x n g) b
+  pub known-is : known b (cells st) ≡ length is
+  pub tree : Tree t b (known b (cells st)) (st .root)
+  pub finds : Finds (findName t is x n g) (length is) (entryOf t b (cells st) x n g) b
 
 search-same : (t : List ℕ) (size : ℕ) (is : List Entry) (b : List ℕ) (st : St) (x n g : ℕ) → Sigil g
     → Booked t size is b (st .entries) (st .names) (st .datums) (st .bytes) (st .root) (st .bfull) → st .bfull ≡ false → Found t is b st x n g
 search-same t size is b st x n g p s f =
     let w = s .written f in
-    let e : known b st ≡ length is = omega (arith, held-count (s .held) f, held-fits (s .held) f, s .long) in
-    let T : Tree t b (known b st) (st .root) = rw e (w .tree) in
-    let m : known b st ≡ length (w .qs) = e ∙ sym (written-length w) in
+    let e : known b (cells st) ≡ length is = omega (arith, held-count (s .held) f, held-fits (s .held) f, s .long) in
+    let T : Tree t b (known b (cells st)) (st .root) = rw e (w .tree) in
+    let m : known b (cells st) ≡ length (w .qs) = e ∙ sym (written-length w) in
     let l = lookup-finds t b x n g 0 (length is) [] (w .qs) (replicate (size - length (wordsOf entryWords (w .qs))) 0) p (w .words-are) refl (omega (arith, written-length w)) (omega arith)
     (w .tree) (rw (w .bare-are) (s .small)) in
     record {
       known-is = e;
       tree = T;
-      finds = rw (seek-is t b x n g st T, m) (rw (w .bare-are) at l);
+      finds = rw (seek-is t b x n g (cells st) T, m) (rw (w .bare-are) at l);
     }
 
 -- what a symbol comes to
 pub record Symbols (t : List ℕ) (size : ℕ) (is : List Entry) (b : List ℕ) (st : St) (x n g : ℕ) (ks : List Entry) (v : ℕ) : Type 0 where
-  pub booked : Booked t size ks (symbolList t b st x n g) (symbolSt t b st x n g .entries) (symbolSt t b st x n g .names) (symbolSt t b st x n g .datums) (symbolSt t b st x n g .bytes) (symbolSt t b st x n g .root) (symbolSt t b st x n g .bfull)
-  pub number : symbolSt t b st x n g .bfull ≡ false → v ≡ symbolNumber t b st x n g
+  pub entries : ℕ
+  pub names : ℕ
+  pub root : ℕ
+  pub full : Bool
+  pub state : symbolSt t b (cells st) x n g ≡ cells (withNames (withEntries st entries full) names root)
+  pub later : full ≡ false → st .bfull ≡ false
+  pub booked : Booked t size ks (symbolList t b (cells st) x n g) entries names (st .datums) (st .bytes) root full
+  pub number : full ≡ false → v ≡ symbolNumber t b (cells st) x n g
 
 -- the link of a new name is set in the words of an earlier one
-name-puts : (t : List ℕ) (size : ℕ) (is : List Entry) (b : List ℕ) (st : St) (x n g h : ℕ) → Written t size is b (st .root) → length is ≡ st .entries → Tree t b (known b st) (st .root) → entryOf t b st x n g ≡ known b st
-    → st .entries < length b / 4 → kind h ≡ nameTag t x n g → Puts t size is (linked b st (descentTo t b st x n g)) (st .entries) h x n (sigilCode g) (rootOf b st)
-name-puts t size is b st x n g h w l T a r k = go (linking t b x n g h st T a r k)
+name-puts : (t : List ℕ) (size : ℕ) (is : List Entry) (b : List ℕ) (st : St) (x n g h : ℕ) → Written t size is b (st .root) → length is ≡ st .entries → Tree t b (known b (cells st)) (st .root) → entryOf t b (cells st) x n g ≡ known b (cells st)
+    → st .entries < length b / 4 → kind h ≡ nameTag t x n g → Puts t size is (linked b (cells st) (descentTo t b (cells st) x n g)) (st .entries) h x n (sigilCode g) (rootOf b (cells st))
+name-puts t size is b st x n g h w l T a r k = go (linking t b x n g h (cells st) T a r k)
   where
-    tree : Tree t (four (linked b st (descentTo t b st x n g)) (st .entries) h x n (sigilCode g)) (st .entries + 1) (rootOf b st)
-    tree = tree-name t b x n g h st T a r k
+    tree : Tree t (four (linked b (cells st) (descentTo t b (cells st) x n g)) (st .entries) h x n (sigilCode g)) (st .entries + 1) (rootOf b (cells st))
+    tree = tree-name t b x n g h (cells st) T a r k
 
-    go : Linking t b x n g st → Puts t size is (linked b st (descentTo t b st x n g)) (st .entries) h x n (sigilCode g) (rootOf b st)
+    go : Linking t b x n g (cells st) → Puts t size is (linked b (cells st) (descentTo t b (cells st) x n g)) (st .entries) h x n (sigilCode g) (rootOf b (cells st))
     go (from-none e) = record { rs = w .qs; words-are = e ∙ w .words-are; bare-are = w .bare-are; tree = tree }
     go (from-name i u e j c) =
         let v : ℕ = withLink (side u) (getD b (4 * i + 3) 0) (st .entries) in
@@ -444,21 +428,27 @@ name-puts t size is b st x n g h w l T a r k = go (linking t b x n g h st T a r 
         }
 
 made : (t : List ℕ) (size : ℕ) (is : List Entry) (b : List ℕ) (st : St) (x n g : ℕ) → Sigil g → Booked t size is b (st .entries) (st .names) (st .datums) (st .bytes) (st .root) (st .bfull)
-    → Found t is b st x n g → entryOf t b st x n g ≡ known b st → Symbols t size is b st x n g (added 50 is x n g) (nextNumber 50 is)
+    → Found t is b st x n g → entryOf t b (cells st) x n g ≡ known b (cells st) → Symbols t size is b st x n g (added 50 is x n g) (nextNumber 50 is)
 made t size is b st x n g p s o a =
     let m = symbol-made t b st x n g (omega arith) in
     record {
-      booked = rw (m .0, m .1, entry-form b st)
-          (booked-entry t size is b (linked b st (descentTo t b st x n g)) st 50 (nameTag t x n g) (st .names) x n (sigilCode g) g (rootOf b st) s (linked-length t b x n g st) (bare-name (nameTag t x n g) (nextNumber 50 is) x n g (tag-high (hashOf t x (sigilCode g) n)) p) (λ f. s .counted f .names-are)
+      entries = pick (ltb (st .entries) (length b / 4)) (st .entries + 1) (st .entries);
+      names = more (st .names) (length b / 4);
+      root = rootOf b (cells st);
+      full = pick (ltb (st .entries) (length b / 4)) (st .bfull) true;
+      state = m .1;
+      later = entry-later b st;
+      booked = rw (m .0)
+          (booked-entry t size is b (linked b (cells st) (descentTo t b (cells st) x n g)) st 50 (nameTag t x n g) (st .names) x n (sigilCode g) g (rootOf b (cells st)) s (linked-length t b x n g (cells st)) (bare-name (nameTag t x n g) (nextNumber 50 is) x n g (tag-high (hashOf t x (sigilCode g) n)) p) (λ f. s .counted f .names-are)
           (λ f r. name-puts t size is b st x n g (wordOf (nameTag t x n g) (nextNumber 50 is)) (s .written f) (held-count (s .held) f) (o .tree) a r (head-kind (nameTag t x n g) (nextNumber 50 is))));
-      number = rw (m .1, m .2, entry-form b st) (λ f. ap low (sym (s .counted (pick-sticky (ltb (st .entries) (length b / 4)) (st .bfull) f .1) .names-are)));
+      number = rw (m .2) (λ f. ap low (sym (s .counted (pick-sticky (ltb (st .entries) (length b / 4)) (st .bfull) f .1) .names-are)));
     }
 
 kept : (t : List ℕ) (size : ℕ) (is : List Entry) (b : List ℕ) (st : St) (x n g v : ℕ) → Booked t size is b (st .entries) (st .names) (st .datums) (st .bytes) (st .root) (st .bfull)
-    → entryOf t b st x n g < known b st → (st .bfull ≡ false → v ≡ payloadAt b (4 * entryOf t b st x n g)) → Symbols t size is b st x n g is v
+    → entryOf t b (cells st) x n g < known b (cells st) → (st .bfull ≡ false → v ≡ payloadAt b (4 * entryOf t b (cells st) x n g)) → Symbols t size is b st x n g is v
 kept t size is b st x n g v s h e =
     let m = symbol-kept t b st x n g h in
-    record { booked = rw (m .0, m .1) s; number = rw (m .1, m .2) e }
+    record { entries = st .entries; names = st .names; root = st .root; full = st .bfull; state = m .1; later = λ f. f; booked = rw (m .0) s; number = rw (m .2) e }
 
 -- full already: whatever is found, nothing more is known
 over : (t : List ℕ) (size : ℕ) (is ks : List Entry) (b b′ : List ℕ) (entries names datums bytes root names′ root′ : ℕ) (full : Bool) → Booked t size is b entries names datums bytes root full
@@ -467,21 +457,33 @@ over t size is ks b b′ entries names datums bytes root names′ root′ full s
     record { long = e ∙ s .long; held = held-over (length ks) (s .held) f h; small = i; written = λ z. never z; counted = λ z. never z }
 
 over-made : (t : List ℕ) (size : ℕ) (is ks : List Entry) (b : List ℕ) (st : St) (x n g v : ℕ) → Booked t size is b (st .entries) (st .names) (st .datums) (st .bytes) (st .root) (st .bfull)
-    → st .bfull ≡ true → length is ≤ length ks → allSmall ks ≡ true → Dec (entryOf t b st x n g < known b st) → Symbols t size is b st x n g ks v
+    → st .bfull ≡ true → length is ≤ length ks → allSmall ks ≡ true → Dec (entryOf t b (cells st) x n g < known b (cells st)) → Symbols t size is b st x n g ks v
 over-made t size is ks b st x n g v s f h i (yes d) =
     let m = symbol-kept t b st x n g d in
     record {
-      booked = rw (m .0, m .1, f) (over t size is ks b b (st .entries) (st .names) (st .datums) (st .bytes) (st .root) (st .names) (st .root) (st .bfull) s f h i refl);
-      number = rw (m .1, f) (λ z. never z);
+      entries = st .entries;
+      names = st .names;
+      root = st .root;
+      full = st .bfull;
+      state = m .1;
+      later = λ z. z;
+      booked = rw (m .0, f) (over t size is ks b b (st .entries) (st .names) (st .datums) (st .bytes) (st .root) (st .names) (st .root) (st .bfull) s f h i refl);
+      number = λ z. never (sym f ∙ z);
     }
 over-made t size is ks b st x n g v s f h i (no d) =
     let m = symbol-made t b st x n g (omega arith) in
     let o : ltb (st .entries) (length b / 4) ≡ false = rw (s .long) (held-none (s .held) (omega (arith, held-full (s .held) f))) in
     record {
-      booked = rw (m .0, m .1, entry-form b st, o)
-          (over t size is ks b (entryList (linked b st (descentTo t b st x n g)) st (wordOf (nameTag t x n g) (low (st .names))) x n (sigilCode g)) (st .entries) (st .names) (st .datums) (st .bytes) (st .root) (more (st .names) (length b / 4)) (rootOf b st) (st .bfull) s f h i
-          (entry-long (linked b st (descentTo t b st x n g)) st (wordOf (nameTag t x n g) (low (st .names))) x n (sigilCode g) ∙ linked-length t b x n g st));
-      number = rw (m .1, entry-form b st, o) (λ z. never z);
+      entries = st .entries;
+      names = more (st .names) (length b / 4);
+      root = rootOf b (cells st);
+      full = true;
+      state = rw o at (m .1);
+      later = λ z. never z;
+      booked = rw (m .0)
+          (over t size is ks b (entryList (linked b (cells st) (descentTo t b (cells st) x n g)) (cells st) (wordOf (nameTag t x n g) (low (st .names))) x n (sigilCode g)) (st .entries) (st .names) (st .datums) (st .bytes) (st .root) (more (st .names) (length b / 4)) (rootOf b (cells st)) (st .bfull) s f h i
+          (entry-long (linked b (cells st) (descentTo t b (cells st) x n g)) st (wordOf (nameTag t x n g) (low (st .names))) x n (sigilCode g) ∙ linked-length t b x n g (cells st)));
+      number = λ z. never z;
     }
 
 -- the entries and the number of the rules
@@ -499,85 +501,70 @@ unfolding Finds
 symbols t size is b st x n g p s = which (st .bfull) refl (findName t is x n g) refl
   where
     which : (f : Bool) → st .bfull ≡ f → (o : Search) → findName t is x n g ≡ o → Symbols t size is b st x n g (entriesOf o is x n g) (numberOf o is)
-    which true f (found v) e = over-made t size is is b st x n g v s f (omega arith) (s .small) (decLt (entryOf t b st x n g) (known b st))
+    which true f (found v) e = over-made t size is is b st x n g v s f (omega arith) (s .small) (decLt (entryOf t b (cells st) x n g) (known b (cells st)))
     which true f missing e = over-made t size is (added 50 is x n g) b st x n g (nextNumber 50 is) s f (omega (arith, length-snoc is (entry 50 (nextNumber 50 is) x n g)))
-        (small-snoc is (entry 50 (nextNumber 50 is) x n g) (s .small) (small-number 50 is)) (decLt (entryOf t b st x n g) (known b st))
+        (small-snoc is (entry 50 (nextNumber 50 is) x n g) (s .small) (small-number 50 is)) (decLt (entryOf t b (cells st) x n g) (known b (cells st)))
     which false f (found v) e =
         let q = search-same t size is b st x n g p s f in
-        let w : Finds (found v) (length is) (entryOf t b st x n g) b = rw e at (q .finds) in
+        let w : Finds (found v) (length is) (entryOf t b (cells st) x n g) b = rw e at (q .finds) in
         kept t size is b st x n g v s (omega (arith, q .known-is, w .0)) (λ z. sym (w .1))
     which false f missing e =
         let q = search-same t size is b st x n g p s f in
-        let w : Finds missing (length is) (entryOf t b st x n g) b = rw e at (q .finds) in
+        let w : Finds missing (length is) (entryOf t b (cells st) x n g) b = rw e at (q .finds) in
         made t size is b st x n g p s q (w ∙ sym (q .known-is))
 
 -- closing up takes the links away
 pub unlinked-exact : (t : List ℕ) (size : ℕ) (is : List Entry) (b : List ℕ) (st : St) → Booked t size is b (st .entries) (st .names) (st .datums) (st .bytes) (st .root) (st .bfull)
-    → Exact entryWords size is (unlinked b st) (st .entries) (st .bfull)
+    → Exact entryWords size is (unlinked b (cells st)) (st .entries) (st .bfull)
 unfolding unlinked
 unlinked-exact t size is b st s = record {
-  long = unlink-length b 0 (known b st) ∙ s .long;
+  long = unlink-length b 0 (known b (cells st)) ∙ s .long;
   held = s .held;
   same = λ f.
       let w = s .written f in
-      let m : known b st ≡ length (w .qs) = omega (arith, held-count (s .held) f, held-fits (s .held) f, s .long, written-length w) in
+      let m : known b (cells st) ≡ length (w .qs) = omega (arith, held-count (s .held) f, held-fits (s .held) f, s .long, written-length w) in
       ap (λ (z : ℕ). unlinkFrom b 0 z) m ∙ unlink-all size (w .qs) b (w .words-are) ∙ ap (λ (z : List Entry). fill size (wordsOf entryWords z)) (w .bare-are);
 }
 
--- The whole memory.
+-- The whole memory: its numbers are those of some St.
 pub record Sim (t : List ℕ) (L N B : ℕ) (i : Ideal) (m : Mem) : Type 0 where
-  pub listed : Listed L (i .records) (m .list) (m .st .records) (m .st .lfull) (m .st .bfull)
-  pub noted : Exact noteWords N (i .notes) (m .notes) (m .st .notes) (m .st .nfull)
-  pub booked : Booked t B (i .entries) (m .book) (m .st .entries) (m .st .names) (m .st .datums) (m .st .bytes) (m .st .root) (m .st .bfull)
-  pub line : i .line ≡ m .st .line
-  pub first-none : eqb (i .firstDatum) 0 ≡ eqb (m .st .first) 0
-  pub first-is : m .st .bfull ≡ false → i .firstDatum ≡ m .st .first
+  pub st : St
+  pub is : m .st ≡ cells st
+  pub listed : Listed L (i .records) (m .list) (st .records) (st .lfull) (st .bfull)
+  pub noted : Exact noteWords N (i .notes) (m .notes) (st .notes) (st .nfull)
+  pub booked : Booked t B (i .entries) (m .book) (st .entries) (st .names) (st .datums) (st .bytes) (st .root) (st .bfull)
+  pub line : i .line ≡ st .line
+  pub first-none : eqb (i .firstDatum) 0 ≡ eqb (st .first) 0
+  pub first-is : st .bfull ≡ false → i .firstDatum ≡ st .first
+  pub first-small : st .first < 4294967296
   pub whole : allFresh (i .records) ≡ true
 
 -- flags stay set
 abbrev pub Later : Mem → Mem → Type 0
-Later m n = (n .st .lfull ≡ false → m .st .lfull ≡ false) × (n .st .bfull ≡ false → m .st .bfull ≡ false)
+Later m n = Stays (m .st) (n .st)
 
 abbrev pub Fits : Mem → Type 0
-Fits m = m .st .lfull ≡ false
+Fits m = listFull (m .st) ≡ false
 
 abbrev pub Room : ℕ → Mem → Type 0
-Room L m = (m .st .lfull ≡ false) × (m .st .records < mostRecords L)
+Room L m = (listFull (m .st) ≡ false) × (recordsIn (m .st) < mostRecords L)
 
-pub put-later : (l : List ℕ) (s : St) → putSt l s .lfull ≡ false → s .lfull ≡ false
-put-later l s = rw (put-form l s) (λ f. pick-sticky (ltb (s .records) (mostRecords (length l))) (s .lfull) f .1)
+-- the flags and the numbers as the memory has them
+module _ {t : List ℕ} {L N B : ℕ} {i : Ideal} {m : Mem} (s : Sim t L N B i m) where
+  pub list-full : listFull (m .st) ≡ s .st .lfull
+  list-full = rw (s .is) (flag-is (s .st .lfull))
 
-entry-later : (b : List ℕ) (s : St) → entrySt b s .bfull ≡ false → s .bfull ≡ false
-entry-later b s = rw (entry-form b s) (λ f. pick-sticky (ltb (s .entries) (length b / 4)) (s .bfull) f .1)
+  pub book-full : bookFull (m .st) ≡ s .st .bfull
+  book-full = rw (s .is) (flag-is (s .st .bfull))
 
--- a symbol touches the book alone
-symbol-form : (t b : List ℕ) (st : St) (x n g : ℕ) → (z : Bool) → ltb (entryOf t b st x n g) (known b st) ≡ z
-    → symbolSt t b st x n g ≡ pick z st (withNames (entrySt b st) (more (st .names) (length b / 4)) (rootOf b st))
-unfolding symbolSt
-symbol-form t b st x n g z e = rw e
+  pub records-held : Held (mostRecords L) (length (i .records)) (recordsIn (m .st)) (listFull (m .st))
+  records-held = rw (s .is, flag-is (s .st .lfull)) (s .listed .held)
 
-pub symbol-rest : {A : Type 0} (f : St → A) (t b : List ℕ) (st : St) (x n g : ℕ) → ((e k r : ℕ) (c : Bool) → f (withNames (withEntries st e c) k r) ≡ f st) → f (symbolSt t b st x n g) ≡ f st
-symbol-rest f t b st x n g h =
-    ap f (symbol-form t b st x n g (ltb (entryOf t b st x n g) (known b st)) refl) ∙ go (ltb (entryOf t b st x n g) (known b st))
-  where
-    go : (z : Bool) → f (pick z st (withNames (entrySt b st) (more (st .names) (length b / 4)) (rootOf b st))) ≡ f st
-    go true = refl
-    go false = rw (entry-form b st) (h (pick (ltb (st .entries) (length b / 4)) (st .entries + 1) (st .entries)) (more (st .names) (length b / 4)) (rootOf b st) (pick (ltb (st .entries) (length b / 4)) (st .bfull) true))
+  pub count-is : Fits m → length (i .records) ≡ asWord (recordsIn (m .st))
+  count-is f = omega (arith, held-count records-held f, records-held .number)
 
-pub symbol-later : (t b : List ℕ) (st : St) (x n g : ℕ) → symbolSt t b st x n g .bfull ≡ false → st .bfull ≡ false
-symbol-later t b st x n g = rw (symbol-form t b st x n g (ltb (entryOf t b st x n g) (known b st)) refl) (go (ltb (entryOf t b st x n g) (known b st)))
-  where
-    go : (z : Bool) → pick z st (withNames (entrySt b st) (more (st .names) (length b / 4)) (rootOf b st)) .bfull ≡ false → st .bfull ≡ false
-    go true f = f
-    go false f = entry-later b st f
-
-pub datum-stays : (b : List ℕ) (s : St) → (datumSt b s .lfull ≡ false → s .lfull ≡ false) × (datumSt b s .bfull ≡ false → s .bfull ≡ false)
-unfolding datumSt
-datum-stays b s = (rw (entry-form b s) (λ e. e), entry-later b s)
-
-pub byte-stays : (b : List ℕ) (s : St) → (byteSt b s .lfull ≡ false → s .lfull ≡ false) × (byteSt b s .bfull ≡ false → s .bfull ≡ false)
-unfolding byteSt
-byte-stays b s = (rw (entry-form b s) (λ e. e), entry-later b s)
+  pub first-word : asWord (firstIn (m .st)) ≡ s .st .first
+  first-word = rw (s .is) (omega (arith, s .first-small))
 
 first-some : (d n : ℕ) → eqb (firstOf d n) 0 ≡ false
 first-some zero n = ne-eqb (suc n) 0 (λ e. omega arith)
@@ -586,150 +573,168 @@ first-some (suc d) n = ne-eqb (suc d) 0 (λ e. omega arith)
 same-head : (k l l′ : ℕ) → SameLine l l′ → wordOf k l′ ≡ wordOf k l
 same-head k l l′ e = omega arith
 
+first-fits : (d n : ℕ) → d < 4294967296 → firstOf d (low n) < 4294967296
+first-fits zero n h = omega arith
+first-fits (suc d) n h = h
+
 module _ (L N B : ℕ) (t : List ℕ) (clean : Ideal → Ideal) where
   pub sim-line : (i : Ideal) (m : Mem) (l : ℕ) → Sim t L N B i m → Sim t L N B (idealR t clean .beginLine i l) (memR t .beginLine m l)
-  sim-line i m l s = record { listed = s .listed; noted = s .noted; booked = s .booked; line = refl; first-none = refl; first-is = λ f. refl; whole = s .whole }
+  sim-line i m l s = record {
+    st = withLine (s .st) l;
+    is = rw (s .is);
+    listed = s .listed;
+    noted = s .noted;
+    booked = s .booked;
+    line = refl;
+    first-none = refl;
+    first-is = λ f. refl;
+    first-small = omega arith;
+    whole = s .whole;
+  }
 
-  pub sim-emit : (i : Ideal) (m : Mem) (k : ℕ) (r : Range) (a a′ b b′ c : ℕ) → fresh k b ≡ true → Sim t L N B i m
-      → (m .st .lfull ≡ false → hideRec (m .st .bfull) (rec k (m .st .line) r a′ b′ c) ≡ hideRec (m .st .bfull) (rec k (m .st .line) r a b c))
+  pub sim-emit : (i : Ideal) (m : Mem) (k : ℕ) (r : Range) (a a′ b b′ c : ℕ) → fresh k b ≡ true → (s : Sim t L N B i m)
+      → (s .st .lfull ≡ false → hideRec (s .st .bfull) (rec k (s .st .line) r a′ b′ c) ≡ hideRec (s .st .bfull) (rec k (s .st .line) r a b c))
       → Sim t L N B (idealR t clean .emit i k r a b c) (memR t .emit m k r a′ b′ c)
   sim-emit i m k r a a′ b b′ c w s e =
-      let h : i .line ≡ m .st .line = s .line in
+      let h : i .line ≡ s .st .line = s .line in
       record {
-        listed = rw (put-form (m .list) (m .st)) (listed-emit L (i .records) (m .list) (m .st) (rec k (i .line) r a b c) (rec k (m .st .line) r a′ b′ c) (s .listed) (rw h e));
-        noted = rw (put-form (m .list) (m .st)) (s .noted);
-        booked = rw (put-form (m .list) (m .st)) (s .booked);
-        line = rw (put-form (m .list) (m .st)) (s .line);
-        first-none = rw (put-form (m .list) (m .st)) (s .first-none);
-        first-is = rw (put-form (m .list) (m .st)) (s .first-is);
+        st = putIn (m .list) (s .st);
+        is = rw (s .is) (put-form (m .list) (s .st));
+        listed = rw (s .is) (listed-emit L (i .records) (m .list) (s .st) (rec k (i .line) r a b c) (rec k (s .st .line) r a′ b′ c) (s .listed) (rw h e));
+        noted = s .noted;
+        booked = s .booked;
+        line = s .line;
+        first-none = s .first-none;
+        first-is = s .first-is;
+        first-small = s .first-small;
         whole = fresh-snoc (i .records) (rec k (i .line) r a b c) (s .whole) w;
       }
 
   pub sim-note-at : (i : Ideal) (m : Mem) (l l′ k : ℕ) (r : Range) (v : ℕ) → SameLine l l′ → Sim t L N B i m → Sim t L N B (idealR t clean .noteAt i l k r v) (memR t .noteAt m l′ k r v)
   unfolding noteList
-  sim-note-at i m l l′ k r v e s =
-      let q = note-form (m .notes) (m .st) in
-      record {
-        listed = rw q (s .listed);
-        noted = rw (q, same-head k l l′ e) (exact-put noteWords (λ x. refl) N (i .notes) (m .notes) (m .st .notes) (m .st .nfull) (noteOf k l r v) (wordOf k l) (rangeWord r) v 0 refl (s .noted));
-        booked = rw q (s .booked);
-        line = rw q (s .line);
-        first-none = rw q (s .first-none);
-        first-is = rw q (s .first-is);
-        whole = s .whole;
-      }
+  sim-note-at i m l l′ k r v e s = record {
+    st = noteIn (m .notes) (s .st);
+    is = rw (s .is) (note-form (m .notes) (s .st));
+    listed = s .listed;
+    noted = rw (s .is, same-head k l l′ e) (exact-put noteWords (λ x. refl) N (i .notes) (m .notes) (s .st .notes) (s .st .nfull) (noteOf k l r v) (wordOf k l) (rangeWord r) v 0 refl (s .noted));
+    booked = s .booked;
+    line = s .line;
+    first-none = s .first-none;
+    first-is = s .first-is;
+    first-small = s .first-small;
+    whole = s .whole;
+  }
 
   pub sim-note : (i : Ideal) (m : Mem) (k : ℕ) (r : Range) (v : ℕ) → Sim t L N B i m → Sim t L N B (idealR t clean .note i k r v) (memR t .note m k r v)
-  sim-note i m k r v s = sim-note-at i m (i .line) (m .st .line) k r v (ap (λ (z : ℕ). z % 16777216) (s .line)) s
+  sim-note i m k r v s = sim-note-at i m (i .line) (lineIn (m .st)) k r v (ap (λ (z : ℕ). z % 16777216) (rw (s .is) (s .line))) s
 
   pub sim-datum : (i : Ideal) (m : Mem) (x n q : ℕ) → Sim t L N B i m → Sim t L N B (idealR t clean .datum i x n q) (memR t .datum m x n q)
   unfolding datumList datumSt
   sim-datum i m x n q s =
-      let z = entry-form (m .book) (m .st) in
+      let o = entry-later (m .book) (s .st) in
       record {
-        listed = listed-later L (i .records) (m .list) (entrySt (m .book) (m .st) .records) (entrySt (m .book) (m .st) .lfull) (m .st .bfull) (entrySt (m .book) (m .st) .bfull) (entry-later (m .book) (m .st)) (rw z (s .listed));
-        noted = rw z (s .noted);
-        booked = rw z (booked-other t B (i .entries) (m .book) (m .st) 51 (m .st .datums) x n q (s .booked) (λ e. omega arith) (omega arith) (λ f. s .booked .counted f .datums-are));
-        line = rw z (s .line);
-        first-none = first-some (i .firstDatum) (nextNumber 51 (i .entries)) ∙ sym (first-some (m .st .first) (low (m .st .datums)));
-        first-is = λ f. let g = entry-later (m .book) (m .st) f in
-            rw (s .first-is g, ← s .booked .counted g .datums-are);
+        st = withData (entryIn (m .book) (s .st)) (more (s .st .datums) (length (m .book) / 4)) (firstOf (s .st .first) (low (s .st .datums)));
+        is = rw (s .is, entry-form (m .book) (s .st));
+        listed = listed-later L (i .records) (m .list) (s .st .records) (s .st .lfull) (s .st .bfull) (entryIn (m .book) (s .st) .bfull) o (s .listed);
+        noted = s .noted;
+        booked = rw (s .is) (booked-other t B (i .entries) (m .book) (s .st) 51 (s .st .datums) x n q (s .booked) (λ e. omega arith) (omega arith) (λ f. s .booked .counted f .datums-are));
+        line = s .line;
+        first-none = first-some (i .firstDatum) (nextNumber 51 (i .entries)) ∙ sym (first-some (s .st .first) (low (s .st .datums)));
+        first-is = λ f. rw (s .first-is (o f), ← s .booked .counted (o f) .datums-are);
+        first-small = first-fits (s .st .first) (s .st .datums) (s .first-small);
         whole = s .whole;
       }
 
   pub sim-byte : (i : Ideal) (m : Mem) (x n v : ℕ) → Sim t L N B i m → Sim t L N B (idealR t clean .byte i x n v) (memR t .byte m x n v)
   unfolding byteList byteSt
   sim-byte i m x n v s =
-      let z = entry-form (m .book) (m .st) in
+      let o = entry-later (m .book) (s .st) in
       record {
-        listed = listed-later L (i .records) (m .list) (entrySt (m .book) (m .st) .records) (entrySt (m .book) (m .st) .lfull) (m .st .bfull) (entrySt (m .book) (m .st) .bfull) (entry-later (m .book) (m .st)) (rw z (s .listed));
-        noted = rw z (s .noted);
-        booked = rw z (booked-other t B (i .entries) (m .book) (m .st) 52 (m .st .bytes) x n v (s .booked) (λ e. omega arith) (omega arith) (λ f. s .booked .counted f .bytes-are));
-        line = rw z (s .line);
-        first-none = rw z (s .first-none);
-        first-is = λ f. rw z (s .first-is (entry-later (m .book) (m .st) f));
+        st = withBytes (entryIn (m .book) (s .st)) (more (s .st .bytes) (length (m .book) / 4));
+        is = rw (s .is, entry-form (m .book) (s .st));
+        listed = listed-later L (i .records) (m .list) (s .st .records) (s .st .lfull) (s .st .bfull) (entryIn (m .book) (s .st) .bfull) o (s .listed);
+        noted = s .noted;
+        booked = rw (s .is) (booked-other t B (i .entries) (m .book) (s .st) 52 (s .st .bytes) x n v (s .booked) (λ e. omega arith) (omega arith) (λ f. s .booked .counted f .bytes-are));
+        line = s .line;
+        first-none = s .first-none;
+        first-is = λ f. s .first-is (o f);
+        first-small = s .first-small;
         whole = s .whole;
       }
 
   pub sim-symbol : (i : Ideal) (m : Mem) (x n g : ℕ) → Sigil g → Sim t L N B i m → Sim t L N B (idealR t clean .symbol i x n g .state) (memR t .symbol m x n g .state)
   unfolding symbolOf
-  sim-symbol i m x n g p s = go (findName t (i .entries) x n g) (symbols t B (i .entries) (m .book) (m .st) x n g p (s .booked))
+  sim-symbol i m x n g p s = go (findName t (i .entries) x n g) (symbols t B (i .entries) (m .book) (s .st) x n g p (s .booked))
     where
-      u : St
-      u = symbolSt t (m .book) (m .st) x n g
+      with-entries : (ks : List Entry) (v : ℕ) → Symbols t B (i .entries) (m .book) (s .st) x n g ks v
+          → Sim t L N B (ideal (i .records) (i .notes) ks (i .line) (i .firstDatum)) (memR t .symbol m x n g .state)
+      with-entries ks v q = record {
+        st = withNames (withEntries (s .st) (q .entries) (q .full)) (q .names) (q .root);
+        is = rw (s .is) (q .state);
+        listed = listed-later L (i .records) (m .list) (s .st .records) (s .st .lfull) (s .st .bfull) (q .full) (q .later) (s .listed);
+        noted = s .noted;
+        booked = rw (s .is) (q .booked);
+        line = s .line;
+        first-none = s .first-none;
+        first-is = λ f. s .first-is (q .later f);
+        first-small = s .first-small;
+        whole = s .whole;
+      }
 
-      go : (o : Search) → Symbols t B (i .entries) (m .book) (m .st) x n g (entriesOf o (i .entries) x n g) (numberOf o (i .entries))
+      go : (o : Search) → Symbols t B (i .entries) (m .book) (s .st) x n g (entriesOf o (i .entries) x n g) (numberOf o (i .entries))
           → Sim t L N B (symbolIn o i x n g .state) (memR t .symbol m x n g .state)
-      go (found v) q = record {
-        listed = listed-later L (i .records) (m .list) (u .records) (u .lfull) (m .st .bfull) (u .bfull) (symbol-later t (m .book) (m .st) x n g)
-            (rw (symbol-rest (λ (z : St). z .records) t (m .book) (m .st) x n g (λ e k r c. refl), symbol-rest (λ (z : St). z .lfull) t (m .book) (m .st) x n g (λ e k r c. refl)) (s .listed));
-        noted = rw (symbol-rest (λ (z : St). z .notes) t (m .book) (m .st) x n g (λ e k r c. refl), symbol-rest (λ (z : St). z .nfull) t (m .book) (m .st) x n g (λ e k r c. refl)) (s .noted);
-        booked = q .booked;
-        line = s .line ∙ sym (symbol-rest (λ (z : St). z .line) t (m .book) (m .st) x n g (λ e k r c. refl));
-        first-none = rw (symbol-rest (λ (z : St). z .first) t (m .book) (m .st) x n g (λ e k r c. refl)) (s .first-none);
-        first-is = λ f. s .first-is (symbol-later t (m .book) (m .st) x n g f) ∙ sym (symbol-rest (λ (z : St). z .first) t (m .book) (m .st) x n g (λ e k r c. refl));
-        whole = s .whole;
-      }
-      go missing q = record {
-        listed = listed-later L (i .records) (m .list) (u .records) (u .lfull) (m .st .bfull) (u .bfull) (symbol-later t (m .book) (m .st) x n g)
-            (rw (symbol-rest (λ (z : St). z .records) t (m .book) (m .st) x n g (λ e k r c. refl), symbol-rest (λ (z : St). z .lfull) t (m .book) (m .st) x n g (λ e k r c. refl)) (s .listed));
-        noted = rw (symbol-rest (λ (z : St). z .notes) t (m .book) (m .st) x n g (λ e k r c. refl), symbol-rest (λ (z : St). z .nfull) t (m .book) (m .st) x n g (λ e k r c. refl)) (s .noted);
-        booked = q .booked;
-        line = s .line ∙ sym (symbol-rest (λ (z : St). z .line) t (m .book) (m .st) x n g (λ e k r c. refl));
-        first-none = rw (symbol-rest (λ (z : St). z .first) t (m .book) (m .st) x n g (λ e k r c. refl)) (s .first-none);
-        first-is = λ f. s .first-is (symbol-later t (m .book) (m .st) x n g f) ∙ sym (symbol-rest (λ (z : St). z .first) t (m .book) (m .st) x n g (λ e k r c. refl));
-        whole = s .whole;
-      }
+      go (found v) q = with-entries (i .entries) v q
+      go missing q = with-entries (added 50 (i .entries) x n g) (nextNumber 50 (i .entries)) q
 
-  pub sim-symbol-number : (i : Ideal) (m : Mem) (x n g : ℕ) → Sigil g → Sim t L N B i m → symbolSt t (m .book) (m .st) x n g .bfull ≡ false
+  pub sim-symbol-number : (i : Ideal) (m : Mem) (x n g : ℕ) → Sigil g → Sim t L N B i m → bookFull (symbolSt t (m .book) (m .st) x n g) ≡ false
       → idealR t clean .symbol i x n g .number ≡ memR t .symbol m x n g .number
   unfolding symbolOf
-  sim-symbol-number i m x n g p s f = go (findName t (i .entries) x n g) (symbols t B (i .entries) (m .book) (m .st) x n g p (s .booked))
+  sim-symbol-number i m x n g p s f = go (findName t (i .entries) x n g) (symbols t B (i .entries) (m .book) (s .st) x n g p (s .booked))
     where
-      go : (o : Search) → Symbols t B (i .entries) (m .book) (m .st) x n g (entriesOf o (i .entries) x n g) (numberOf o (i .entries))
+      same : (ks : List Entry) (v : ℕ) → Symbols t B (i .entries) (m .book) (s .st) x n g ks v → v ≡ symbolNumber t (m .book) (m .st) x n g
+      same ks v q = rw (s .is) (q .number (rw (s .is, q .state, flag-is (q .full)) at f))
+
+      go : (o : Search) → Symbols t B (i .entries) (m .book) (s .st) x n g (entriesOf o (i .entries) x n g) (numberOf o (i .entries))
           → symbolIn o i x n g .number ≡ symbolNumber t (m .book) (m .st) x n g
-      go (found v) q = q .number f
-      go missing q = q .number f
+      go (found v) q = same (i .entries) v q
+      go missing q = same (added 50 (i .entries) x n g) (nextNumber 50 (i .entries)) q
 
   -- a record changed
   sim-change : (w : List ℕ → List ℕ) (f g : Rec → Rec) → ((r : Rec) (ys : List ℕ) → w (recWords r ++ ys) ≡ recWords (g r) ++ ys) → ((p : List ℕ) → length (w p) ≡ length p)
-      → (i : Ideal) (m : Mem) (k k′ : ℕ) → Sim t L N B i m → (m .st .lfull ≡ false → k ≡ k′)
-      → (m .st .lfull ≡ false → (r : Rec) → hideRec (m .st .bfull) r ≡ hideRec (m .st .bfull) (getD (i .records) k noRec) → hideRec (m .st .bfull) (g r) ≡ hideRec (m .st .bfull) (f (getD (i .records) k noRec)))
+      → (i : Ideal) (m : Mem) (k k′ : ℕ) → (s : Sim t L N B i m) → (s .st .lfull ≡ false → k ≡ k′)
+      → (s .st .lfull ≡ false → (r : Rec) → hideRec (s .st .bfull) r ≡ hideRec (s .st .bfull) (getD (i .records) k noRec) → hideRec (s .st .bfull) (g r) ≡ hideRec (s .st .bfull) (f (getD (i .records) k noRec)))
       → freshRec (f (getD (i .records) k noRec)) ≡ true
       → Sim t L N B (ideal (change f (i .records) k) (i .notes) (i .entries) (i .line) (i .firstDatum)) (mem (onRec w (m .list) (m .st) k′) (m .notes) (m .book) (m .st))
   sim-change w f g h n i m k k′ s e d v = record {
-    listed = listed-change w f g h n L (i .records) (m .list) (m .st) k k′ (s .listed) e d;
+    st = s .st;
+    is = s .is;
+    listed = rw (s .is) (listed-change w f g h n L (i .records) (m .list) (s .st) k k′ (s .listed) e d);
     noted = s .noted;
     booked = s .booked;
     line = s .line;
     first-none = s .first-none;
     first-is = s .first-is;
+    first-small = s .first-small;
     whole = fresh-change f (i .records) k (s .whole) v;
   }
 
-  pub sim-patch : (i : Ideal) (m : Mem) (k k′ v v′ : ℕ) → Sim t L N B i m → (m .st .lfull ≡ false → k ≡ k′) → (m .st .lfull ≡ false → v ≡ v′) → Sim t L N B (idealR t clean .patch i k v) (memR t .patch m k′ v′)
+  pub sim-patch : (i : Ideal) (m : Mem) (k k′ v v′ : ℕ) → (s : Sim t L N B i m) → (s .st .lfull ≡ false → k ≡ k′) → (s .st .lfull ≡ false → v ≡ v′) → Sim t L N B (idealR t clean .patch i k v) (memR t .patch m k′ v′)
   sim-patch i m k k′ v v′ s e d = sim-change (setA v′) (withA v) (withA v′) (λ r ys. refl) (λ p. length-set p 2 v′) i m k k′ s e
-      (λ z r a. rw (← d z) (blind-same (m .st .bfull) (withA v) r (getD (i .records) k noRec) (blind-a (m .st .bfull) v) a)) (fresh-at (i .records) k (s .whole))
+      (λ z r a. rw (← d z) (blind-same (s .st .bfull) (withA v) r (getD (i .records) k noRec) (blind-a (s .st .bfull) v) a)) (fresh-at (i .records) k (s .whole))
 
-  pub sim-patch-end : (i : Ideal) (m : Mem) (k k′ v v′ : ℕ) → Sim t L N B i m → (m .st .lfull ≡ false → k ≡ k′) → (m .st .lfull ≡ false → v ≡ v′) → Sim t L N B (idealR t clean .patchEnd i k v) (memR t .patchEnd m k′ v′)
+  pub sim-patch-end : (i : Ideal) (m : Mem) (k k′ v v′ : ℕ) → (s : Sim t L N B i m) → (s .st .lfull ≡ false → k ≡ k′) → (s .st .lfull ≡ false → v ≡ v′) → Sim t L N B (idealR t clean .patchEnd i k v) (memR t .patchEnd m k′ v′)
   sim-patch-end i m k k′ v v′ s e d = sim-change (setC v′) (withC v) (withC v′) (λ r ys. refl) (λ p. length-set p 4 v′) i m k k′ s e
-      (λ z r a. rw (← d z) (blind-same (m .st .bfull) (withC v) r (getD (i .records) k noRec) (blind-c (m .st .bfull) v) a)) (fresh-at (i .records) k (s .whole))
+      (λ z r a. rw (← d z) (blind-same (s .st .bfull) (withC v) r (getD (i .records) k noRec) (blind-c (s .st .bfull) v) a)) (fresh-at (i .records) k (s .whole))
 
-  pub sim-settle : (i : Ideal) (m : Mem) (k v v′ : ℕ) → eqb (getD (i .records) k noRec .call) 25 ≡ false → Sim t L N B i m → (m .st .lfull ≡ false → v ≡ v′) → Sim t L N B (idealR t clean .settle i k v) (memR t .settle m k v′)
+  pub sim-settle : (i : Ideal) (m : Mem) (k v v′ : ℕ) → eqb (getD (i .records) k noRec .call) 25 ≡ false → (s : Sim t L N B i m) → (s .st .lfull ≡ false → v ≡ v′) → Sim t L N B (idealR t clean .settle i k v) (memR t .settle m k v′)
   sim-settle i m k v v′ u s d = sim-change (settleArgs v′) (settled v) (settled v′) (λ r ys. refl) (λ p. simp length-set) i m k k s (λ z. refl)
-      (λ z r a. rw (← d z) (blind-same (m .st .bfull) (settled v) r (getD (i .records) k noRec) (blind-settled (m .st .bfull) v) a)) (rw u)
+      (λ z r a. rw (← d z) (blind-same (s .st .bfull) (settled v) r (getD (i .records) k noRec) (blind-settled (s .st .bfull) v) a)) (rw u)
 
-  pub sim-settle-number : (i : Ideal) (m : Mem) (k v v′ : ℕ) → getD (i .records) k noRec .call ≡ 31 → Sim t L N B i m → (m .st .bfull ≡ false → v ≡ v′) → Sim t L N B (idealR t clean .settle i k v) (memR t .settle m k v′)
+  pub sim-settle-number : (i : Ideal) (m : Mem) (k v v′ : ℕ) → getD (i .records) k noRec .call ≡ 31 → (s : Sim t L N B i m) → (s .st .bfull ≡ false → v ≡ v′) → Sim t L N B (idealR t clean .settle i k v) (memR t .settle m k v′)
   sim-settle-number i m k v v′ u s d = sim-change (settleArgs v′) (settled v) (settled v′) (λ r ys. refl) (λ p. simp length-set) i m k k s (λ z. refl)
-      (λ z r a. blind-same (m .st .bfull) (settled v′) r (getD (i .records) k noRec) (blind-settled (m .st .bfull) v′) a
-      ∙ sym (hide-number (m .st .bfull) (getD (i .records) k noRec .call) (getD (i .records) k noRec .line) (getD (i .records) k noRec .range) v v′ 0 0 (rw u) d)) (rw u)
+      (λ z r a. blind-same (s .st .bfull) (settled v′) r (getD (i .records) k noRec) (blind-settled (s .st .bfull) v′) a
+      ∙ sym (hide-number (s .st .bfull) (getD (i .records) k noRec .call) (getD (i .records) k noRec .line) (getD (i .records) k noRec .range) v v′ 0 0 (rw u) d)) (rw u)
 
   pub sim-dropLabel : (i : Ideal) (m : Mem) (k : ℕ) → eqb (getD (i .records) k noRec .call) 25 ≡ false → Sim t L N B i m → Sim t L N B (idealR t clean .dropLabel i k) (memR t .dropLabel m k)
   sim-dropLabel i m k u s = sim-change clearArgs unlabelled unlabelled (λ r ys. refl) (λ p. simp length-set) i m k k s (λ z. refl)
-      (λ z r a. blind-same (m .st .bfull) unlabelled r (getD (i .records) k noRec) (blind-unlabelled (m .st .bfull)) a) (rw u)
-
-  pub note-same : {A : Type 0} (f : St → A) (m : Mem) → ((e : ℕ) (c : Bool) → f (withNotes (m .st) e c) ≡ f (m .st)) → f (noteSt (m .notes) (m .st)) ≡ f (m .st)
-  note-same f m h = rw (note-form (m .notes) (m .st)) (h (pick (ltb (m .st .notes) (length (m .notes) / 4)) (m .st .notes + 1) (m .st .notes)) (pick (ltb (m .st .notes) (length (m .notes) / 4)) (m .st .nfull) true))
-
-  pub note-stays : (m : Mem) → ((noteSt (m .notes) (m .st) .lfull ≡ false → m .st .lfull ≡ false) × (noteSt (m .notes) (m .st) .bfull ≡ false → m .st .bfull ≡ false))
-  note-stays m = (λ e. sym (note-same (λ (z : St). z .lfull) m (λ e c. refl)) ∙ e, λ e. sym (note-same (λ (z : St). z .bfull) m (λ e c. refl)) ∙ e)
+      (λ z r a. blind-same (s .st .bfull) unlabelled r (getD (i .records) k noRec) (blind-unlabelled (s .st .bfull)) a) (rw u)

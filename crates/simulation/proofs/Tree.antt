@@ -9,11 +9,10 @@ use lib.Seq.{getD-set-same, getD-set-other}
 use borrow.Author.Tests.{lt-ltb, le-ltb, ltb-true, eqb-true, eq-eqb, ne-eqb}
 use native.Mathlib.Decide.{decLt, ℕ-discrete}
 use native.Mathlib.Omega.{arith}
-use Rattle.recorder.specs.declared.codegen.St.{St}
 use Rattle.recorder.specs.declared.codegen.Descent.{Descent}
 use Rattle.recorder.specs.Word.{pick, both, kind, kindAt, next}
 use Rattle.recorder.specs.Name.{upper, sameUnits, sameName}
-use Rattle.recorder.specs.Mem.{four, sigilCode, sigilOf, linkOf, withLink, known, tagOf, nameTag, namedAt, lookup, hashStep, hashOf, childOf, hasChild, descentFrom, descentTo, entryOf, mayLink, linkedAt, linked, rootOf}
+use Rattle.recorder.specs.Mem.{entriesIn, rootIn, four, sigilCode, sigilOf, linkOf, withLink, known, tagOf, nameTag, namedAt, lookup, hashStep, hashOf, childOf, hasChild, descentFrom, descentTo, entryOf, mayLink, linkedAt, linked, rootOf}
 use Rattle.recorder.proofs.Bools.{never, both-parts, both-false}
 
 pick-true : (c a : Bool) → pick c a false ≡ true → (c ≡ true) × (a ≡ true)
@@ -198,7 +197,7 @@ module _ (t b : List ℕ) (x n g : ℕ) where
       early i m (no d) = p .before i (omega arith) m
 
 -- the search by the tree finds what the search in order finds
-module _ (t b : List ℕ) (x n g : ℕ) (s : St) (T : Tree t b (known b s) (s .root)) where
+module _ (t b : List ℕ) (x n g : ℕ) (s : List ℕ) (T : Tree t b (known b s) (rootIn s)) where
   abbrev N : ℕ
   N = known b s
 
@@ -206,7 +205,7 @@ module _ (t b : List ℕ) (x n g : ℕ) (s : St) (T : Tree t b (known b s) (s .r
   J = lookup t b x n g 0 (known b s)
 
   abbrev E : Descent
-  E = descentFrom t b (known b s) x n g (descent (s .root - 1) (hashOf t x (sigilCode g) n)) (known b s)
+  E = descentFrom t b (known b s) x n g (descent (rootIn s - 1) (hashOf t x (sigilCode g) n)) (known b s)
 
   in-order : First t b x n g 0 N J
   in-order = let z : 0 + known b s ≡ known b s = omega arith in rw z at (lookup-first t b x n g 0 (known b s))
@@ -218,12 +217,12 @@ module _ (t b : List ℕ) (x n g : ℕ) (s : St) (T : Tree t b (known b s) (s .r
       first-skip t b x n g (min N 32768) N (lookup t b x n g (min N 32768) (N - 32768)) (rw z at (lookup-first t b x n g (min (known b s) 32768) (known b s - 32768)))
       (λ i l. is-false (namedAt t b i x n g) (λ e. f i (omega arith) (omega arith) e))
 
-  end-name : 0 < s .root → (E .at < N) × (E .at < 32768) × (127 < kindAt b (4 * E .at))
+  end-name : 0 < rootIn s → (E .at < N) × (E .at < 32768) × (127 < kindAt b (4 * E .at))
   end-name w =
       let q = T .first w in
-      walk-name T (descent-walks t b N x n g (omega arith) (s .root - 1) (hashOf t x (sigilCode g) n) N (q .0)) (q .0) (q .1) (q .2)
+      walk-name T (descent-walks t b N x n g (omega arith) (rootIn s - 1) (hashOf t x (sigilCode g) n) N (q .0)) (q .0) (q .1) (q .2)
 
-  not-found : 0 < s .root → ((i : ℕ) → i < N → i < 32768 → i < J)
+  not-found : 0 < rootIn s → ((i : ℕ) → i < N → i < 32768 → i < J)
       → First t b x n g 0 N (pick (both (ltb (E .at) N) (namedAt t b (E .at) x n g)) (E .at) (lookup t b x n g (min N 32768) (N - 32768)))
   not-found w f =
       let q = end-name w in
@@ -231,24 +230,24 @@ module _ (t b : List ℕ) (x n g : ℕ) (s : St) (T : Tree t b (known b s) (s .r
       let c : namedAt t b (E .at) x n g ≡ false = F .before (E .at) (omega arith) (f (E .at) (q .0) (q .1)) in
       rw (c, both-false (ltb (E .at) N)) (late (λ i l m e. never (sym e ∙ F .before i (omega arith) (f i l m))))
 
-  by-tree : 0 < s .root → Dec (J < N) → Dec (J < 32768)
+  by-tree : 0 < rootIn s → Dec (J < N) → Dec (J < 32768)
       → First t b x n g 0 N (pick (both (ltb (E .at) N) (namedAt t b (E .at) x n g)) (E .at) (lookup t b x n g (min N 32768) (N - 32768)))
   by-tree w (yes d) (yes e) =
       let F = in-order in
       let i = named-is t b J x n g (F .is d) in
-      let r : Reach b J (s .root - 1) (hashOf t x (sigilCode g) n) = rw (i .2) at (T .reached w J d e (i .1)) in
-      let c : E .at ≡ J = descent-finds t b N x n g (omega arith) J (s .root - 1) (hashOf t x (sigilCode g) n) N r d (omega arith) (λ k l. F .before k (omega arith) l) (F .is d) in
+      let r : Reach b J (rootIn s - 1) (hashOf t x (sigilCode g) n) = rw (i .2) at (T .reached w J d e (i .1)) in
+      let c : E .at ≡ J = descent-finds t b N x n g (omega arith) J (rootIn s - 1) (hashOf t x (sigilCode g) n) N r d (omega arith) (λ k l. F .before k (omega arith) l) (F .is d) in
       rw (c, lt-ltb J N d, F .is d) F
   by-tree w (yes d) (no e) = not-found w (λ i l m. omega arith)
   by-tree w (no d) e = not-found w (λ i l m. omega arith)
 
   seek-first : First t b x n g 0 N (entryOf t b s x n g)
   unfolding entryOf descentTo
-  seek-first = which (decLt 0 (s .root))
+  seek-first = which (decLt 0 (rootIn s))
     where
-      which : Dec (0 < s .root) → First t b x n g 0 N (pick (both (ltb 0 (s .root)) (both (ltb (E .at) N) (namedAt t b (E .at) x n g))) (E .at) (lookup t b x n g (min N 32768) (N - 32768)))
-      which (yes w) = rw (lt-ltb 0 (s .root) w) (by-tree w (decLt J N) (decLt J 32768))
-      which (no w) = rw (le-ltb 0 (s .root) (omega arith)) (late (λ i l m e. T .none (omega arith) i l m (named-is t b i x n g e .1)))
+      which : Dec (0 < rootIn s) → First t b x n g 0 N (pick (both (ltb 0 (rootIn s)) (both (ltb (E .at) N) (namedAt t b (E .at) x n g))) (E .at) (lookup t b x n g (min N 32768) (N - 32768)))
+      which (yes w) = rw (lt-ltb 0 (rootIn s) w) (by-tree w (decLt J N) (decLt J 32768))
+      which (no w) = rw (le-ltb 0 (rootIn s) (omega arith)) (late (λ i l m e. T .none (omega arith) i l m (named-is t b i x n g e .1)))
 
   pub seek-is : entryOf t b s x n g ≡ J
   seek-is = first-same t b x n g 0 N (entryOf t b s x n g) J seek-first in-order
@@ -532,22 +531,22 @@ pub tree-other : (t b : List ℕ) (n root h x y z : ℕ) → n < length b / 4 �
 tree-other t b n root h x y z room k j T =
     tree-grown t b (four b n h x y z) n (four-grown b n h x y z room) root T (λ e. absurd (k (rw (four-head b n h x y z room) at e))) (λ e. j (rw (four-head b n h x y z room) at e))
 
-pub linked-length : (t b : List ℕ) (x n g : ℕ) (s : St) → length (linked b s (descentTo t b s x n g)) ≡ length b
+pub linked-length : (t b : List ℕ) (x n g : ℕ) (s : List ℕ) → length (linked b s (descentTo t b s x n g)) ≡ length b
 unfolding linked linkedAt
-linked-length t b x n g s = go (both (ltb 0 (s .root)) (mayLink b s)) (ltb (descentTo t b s x n g .at) (length b / 4))
+linked-length t b x n g s = go (both (ltb 0 (rootIn s)) (mayLink b s)) (ltb (descentTo t b s x n g .at) (length b / 4))
   where
-    go : (c d : Bool) → length (pick c (pick d (linkBook b (s .entries) (descentTo t b s x n g .at) (descentTo t b s x n g .bits)) b) b) ≡ length b
-    go true true = length-set b (4 * descentTo t b s x n g .at + 3) (withLink (side (descentTo t b s x n g .bits)) (getD b (4 * descentTo t b s x n g .at + 3) 0) (s .entries))
+    go : (c d : Bool) → length (pick c (pick d (linkBook b (entriesIn s) (descentTo t b s x n g .at) (descentTo t b s x n g .bits)) b) b) ≡ length b
+    go true true = length-set b (4 * descentTo t b s x n g .at + 3) (withLink (side (descentTo t b s x n g .bits)) (getD b (4 * descentTo t b s x n g .at + 3) 0) (entriesIn s))
     go true false = refl
     go false d = refl
 
 -- what is linked: nothing, or an earlier name
-pub data Linking (t b : List ℕ) (x n g : ℕ) (s : St) : Type 0 where
+pub data Linking (t b : List ℕ) (x n g : ℕ) (s : List ℕ) : Type 0 where
   from-none : linked b s (descentTo t b s x n g) ≡ b → Linking t b x n g s
-  from-name : (e u : ℕ) → linked b s (descentTo t b s x n g) ≡ linkBook b (s .entries) e u → e < s .entries → 127 < kindAt b (4 * e) → Linking t b x n g s
+  from-name : (e u : ℕ) → linked b s (descentTo t b s x n g) ≡ linkBook b (entriesIn s) e u → e < entriesIn s → 127 < kindAt b (4 * e) → Linking t b x n g s
 
 -- a new name: where its descent ends there is no child
-module _ (t b : List ℕ) (x n g h : ℕ) (s : St) (T : Tree t b (known b s) (s .root)) (absent : entryOf t b s x n g ≡ known b s) (room : s .entries < length b / 4) (tagged : kind h ≡ nameTag t x n g) where
+module _ (t b : List ℕ) (x n g h : ℕ) (s : List ℕ) (T : Tree t b (known b s) (rootIn s)) (absent : entryOf t b s x n g ≡ known b s) (room : entriesIn s < length b / 4) (tagged : kind h ≡ nameTag t x n g) where
   abbrev D : Descent
   D = descentTo t b s x n g
 
@@ -555,84 +554,84 @@ module _ (t b : List ℕ) (x n g h : ℕ) (s : St) (T : Tree t b (known b s) (s 
   named = rw tagged (tag-high (hashOf t x (sigilCode g) n))
 
   -- the new head is no plain kind, whatever the book is that it is put into
-  not-plain : (b′ : List ℕ) → s .entries < length b′ / 4 → kindAt (four b′ (s .entries) h x n (sigilCode g)) (4 * s .entries) ≡ 50 → ⊥
-  not-plain b′ r e = let q : kind h ≡ 50 = rw (four-head b′ (s .entries) h x n (sigilCode g) r) at e in omega (arith, named)
+  not-plain : (b′ : List ℕ) → entriesIn s < length b′ / 4 → kindAt (four b′ (entriesIn s) h x n (sigilCode g)) (4 * entriesIn s) ≡ 50 → ⊥
+  not-plain b′ r e = let q : kind h ≡ 50 = rw (four-head b′ (entriesIn s) h x n (sigilCode g) r) at e in omega (arith, named)
 
-  known-is : known b s ≡ s .entries
+  known-is : known b s ≡ entriesIn s
   known-is = omega arith
 
-  T′ : Tree t b (s .entries) (s .root)
+  T′ : Tree t b (entriesIn s) (rootIn s)
   T′ = rw known-is at T
 
-  end-known : 0 < s .root → (D .at < known b s) × (D .at < 32768) × (127 < kindAt b (4 * D .at))
+  end-known : 0 < rootIn s → (D .at < known b s) × (D .at < 32768) × (127 < kindAt b (4 * D .at))
   unfolding descentTo
   end-known w = end-name t b x n g s T w
 
-  end-is : 0 < s .root → (D .at < s .entries) × (D .at < 32768) × (127 < kindAt b (4 * D .at))
+  end-is : 0 < rootIn s → (D .at < entriesIn s) × (D .at < 32768) × (127 < kindAt b (4 * D .at))
   end-is w = rw known-is at (end-known w)
 
-  end-unnamed : 0 < s .root → namedAt t b (D .at) x n g ≡ false
+  end-unnamed : 0 < rootIn s → namedAt t b (D .at) x n g ≡ false
   end-unnamed w = let q = end-is w in seek-first t b x n g s T .before (D .at) (omega arith) (rw (absent, known-is) (q .0))
 
-  end-stops : 0 < s .root → hasChild b (known b s) D ≡ false
+  end-stops : 0 < rootIn s → hasChild b (known b s) D ≡ false
   unfolding descentTo
-  end-stops w = let f = T .first w in descent-stops t b (known b s) x n g (omega arith) (s .root - 1) (hashOf t x (sigilCode g) n) (known b s) (f .0) (omega arith) (end-unnamed w)
+  end-stops w = let f = T .first w in descent-stops t b (known b s) x n g (omega arith) (rootIn s - 1) (hashOf t x (sigilCode g) n) (known b s) (f .0) (omega arith) (end-unnamed w)
 
-  end-free : 0 < s .root → both (ltb (D .at) (linkFrom b (side (D .bits)) (D .at))) (ltb (linkFrom b (side (D .bits)) (D .at)) (s .entries)) ≡ false
+  end-free : 0 < rootIn s → both (ltb (D .at) (linkFrom b (side (D .bits)) (D .at))) (ltb (linkFrom b (side (D .bits)) (D .at)) (entriesIn s)) ≡ false
   end-free w = let q = end-is w in rw (known-is, lt-ltb (D .at) (length b / 4) (omega arith)) at (end-stops w)
 
-  walk-known : 0 < s .root → Walk b (known b s) (D .at) (D .bits) (s .root - 1) (hashOf t x (sigilCode g) n)
+  walk-known : 0 < rootIn s → Walk b (known b s) (D .at) (D .bits) (rootIn s - 1) (hashOf t x (sigilCode g) n)
   unfolding descentTo
-  walk-known w = let f = T .first w in descent-walks t b (known b s) x n g (omega arith) (s .root - 1) (hashOf t x (sigilCode g) n) (known b s) (f .0)
+  walk-known w = let f = T .first w in descent-walks t b (known b s) x n g (omega arith) (rootIn s - 1) (hashOf t x (sigilCode g) n) (known b s) (f .0)
 
-  end-walk : 0 < s .root → Walk b (s .entries) (D .at) (D .bits) (s .root - 1) (hashOf t x (sigilCode g) n)
+  end-walk : 0 < rootIn s → Walk b (entriesIn s) (D .at) (D .bits) (rootIn s - 1) (hashOf t x (sigilCode g) n)
   end-walk w = rw known-is at (walk-known w)
 
   -- the book that the entry is put into, and the root
-  not-linked : both (ltb 0 (s .root)) (ltb (s .entries) 32768) ≡ false → linked b s (descentTo t b s x n g) ≡ b
+  not-linked : both (ltb 0 (rootIn s)) (ltb (entriesIn s) 32768) ≡ false → linked b s (descentTo t b s x n g) ≡ b
   unfolding linked
-  not-linked e = rw (lt-ltb (s .entries) (length b / 4) room, e)
+  not-linked e = rw (lt-ltb (entriesIn s) (length b / 4) room, e)
 
-  is-linked : 0 < s .root → s .entries < 32768 → linked b s (descentTo t b s x n g) ≡ linkBook b (s .entries) (D .at) (D .bits)
+  is-linked : 0 < rootIn s → entriesIn s < 32768 → linked b s (descentTo t b s x n g) ≡ linkBook b (entriesIn s) (D .at) (D .bits)
   unfolding linked linkedAt
-  is-linked w l = let q = end-is w in rw (lt-ltb 0 (s .root) w, lt-ltb (s .entries) (length b / 4) room, lt-ltb (s .entries) 32768 l, lt-ltb (D .at) (length b / 4) (omega arith))
+  is-linked w l = let q = end-is w in rw (lt-ltb 0 (rootIn s) w, lt-ltb (entriesIn s) (length b / 4) room, lt-ltb (entriesIn s) 32768 l, lt-ltb (D .at) (length b / 4) (omega arith))
 
-  root-stays : both (eqb (s .root) 0) (ltb (s .entries) 32768) ≡ false → rootOf b s ≡ s .root
+  root-stays : both (eqb (rootIn s) 0) (ltb (entriesIn s) 32768) ≡ false → rootOf b s ≡ rootIn s
   unfolding rootOf
-  root-stays e = rw (lt-ltb (s .entries) (length b / 4) room, e)
+  root-stays e = rw (lt-ltb (entriesIn s) (length b / 4) room, e)
 
-  root-new : s .root ≡ 0 → s .entries < 32768 → rootOf b s ≡ s .entries + 1
+  root-new : rootIn s ≡ 0 → entriesIn s < 32768 → rootOf b s ≡ entriesIn s + 1
   unfolding rootOf
-  root-new e l = rw (lt-ltb (s .entries) (length b / 4) room, eq-eqb (s .root) 0 e, lt-ltb (s .entries) 32768 l)
+  root-new e l = rw (lt-ltb (entriesIn s) (length b / 4) room, eq-eqb (rootIn s) 0 e, lt-ltb (entriesIn s) 32768 l)
 
   pub linking : Linking t b x n g s
-  linking = go (decLt 0 (s .root)) (decLt (s .entries) 32768)
+  linking = go (decLt 0 (rootIn s)) (decLt (entriesIn s) 32768)
     where
-      go : Dec (0 < s .root) → Dec (s .entries < 32768) → Linking t b x n g s
+      go : Dec (0 < rootIn s) → Dec (entriesIn s < 32768) → Linking t b x n g s
       go (yes w) (yes l) = let q = end-is w in from-name (D .at) (D .bits) (is-linked w l) (q .0) (q .2)
-      go (no w) l = from-none (not-linked (rw (le-ltb 0 (s .root) (omega arith))))
-      go (yes w) (no l) = from-none (not-linked (rw (le-ltb (s .entries) 32768 (omega arith)) (both-false (ltb 0 (s .root)))))
+      go (no w) l = from-none (not-linked (rw (le-ltb 0 (rootIn s) (omega arith))))
+      go (yes w) (no l) = from-none (not-linked (rw (le-ltb (entriesIn s) 32768 (omega arith)) (both-false (ltb 0 (rootIn s)))))
 
-  pub tree-name : Tree t (four (linked b s (descentTo t b s x n g)) (s .entries) h x n (sigilCode g)) (s .entries + 1) (rootOf b s)
-  tree-name = go (decLt 0 (s .root)) (decLt (s .entries) 32768)
+  pub tree-name : Tree t (four (linked b s (descentTo t b s x n g)) (entriesIn s) h x n (sigilCode g)) (entriesIn s + 1) (rootOf b s)
+  tree-name = go (decLt 0 (rootIn s)) (decLt (entriesIn s) 32768)
     where
-      go : Dec (0 < s .root) → Dec (s .entries < 32768) → Tree t (four (linked b s (descentTo t b s x n g)) (s .entries) h x n (sigilCode g)) (s .entries + 1) (rootOf b s)
+      go : Dec (0 < rootIn s) → Dec (entriesIn s < 32768) → Tree t (four (linked b s (descentTo t b s x n g)) (entriesIn s) h x n (sigilCode g)) (entriesIn s + 1) (rootOf b s)
       go w (no l) =
-          rw (not-linked (rw (le-ltb (s .entries) 32768 (omega arith)) (both-false (ltb 0 (s .root)))), root-stays (rw (le-ltb (s .entries) 32768 (omega arith)) (both-false (eqb (s .root) 0))))
-          (tree-grown t b (four b (s .entries) h x n (sigilCode g)) (s .entries) (four-grown b (s .entries) h x n (sigilCode g) room) (s .root) T′
-          (λ e. fresh-new t b (s .entries) h x n g (s .root) room tagged (λ i. absurd (l i)) (λ i. absurd (l i))) (not-plain b room))
+          rw (not-linked (rw (le-ltb (entriesIn s) 32768 (omega arith)) (both-false (ltb 0 (rootIn s)))), root-stays (rw (le-ltb (entriesIn s) 32768 (omega arith)) (both-false (eqb (rootIn s) 0))))
+          (tree-grown t b (four b (entriesIn s) h x n (sigilCode g)) (entriesIn s) (four-grown b (entriesIn s) h x n (sigilCode g) room) (rootIn s) T′
+          (λ e. fresh-new t b (entriesIn s) h x n g (rootIn s) room tagged (λ i. absurd (l i)) (λ i. absurd (l i))) (not-plain b room))
       go (no w) (yes l) =
-          let z : s .root ≡ 0 = omega arith in
-          rw (not-linked (rw (le-ltb 0 (s .root) (omega arith))), root-new z l)
-          (tree-planted t b (four b (s .entries) h x n (sigilCode g)) (s .entries) (four-grown b (s .entries) h x n (sigilCode g) room) (rw z at T′) l
-          (rw (four-head b (s .entries) h x n (sigilCode g) room) named)
-          (fresh-new t b (s .entries) h x n g (s .entries + 1) room tagged (λ i. omega arith) (λ i. here (omega arith))))
+          let z : rootIn s ≡ 0 = omega arith in
+          rw (not-linked (rw (le-ltb 0 (rootIn s) (omega arith))), root-new z l)
+          (tree-planted t b (four b (entriesIn s) h x n (sigilCode g)) (entriesIn s) (four-grown b (entriesIn s) h x n (sigilCode g) room) (rw z at T′) l
+          (rw (four-head b (entriesIn s) h x n (sigilCode g) room) named)
+          (fresh-new t b (entriesIn s) h x n g (entriesIn s + 1) room tagged (λ i. omega arith) (λ i. here (omega arith))))
       go (yes w) (yes l) =
           let q = end-is w in
-          let G = linked-grown b (s .entries) (D .at) (D .bits) h x n (sigilCode g) room l (q .0) named (end-free w) in
-          let r = reached-new b (s .entries) (D .at) (D .bits) h x n (sigilCode g) room l (q .0) named (end-free w) in
-          let m = linked-room b (s .entries) (D .at) (D .bits) h x n (sigilCode g) room l (q .0) named (end-free w) in
-          rw (is-linked w l, root-stays (rw (ne-eqb (s .root) 0 (λ e. omega arith))))
-          (tree-grown t b (four (linkBook b (s .entries) (D .at) (D .bits)) (s .entries) h x n (sigilCode g)) (s .entries) G (s .root) T′
-          (λ e. fresh-new t (linkBook b (s .entries) (D .at) (D .bits)) (s .entries) h x n g (s .root) m tagged (λ i. w) (λ i. walk-grown G (end-walk w) r))
-          (not-plain (linkBook b (s .entries) (D .at) (D .bits)) m))
+          let G = linked-grown b (entriesIn s) (D .at) (D .bits) h x n (sigilCode g) room l (q .0) named (end-free w) in
+          let r = reached-new b (entriesIn s) (D .at) (D .bits) h x n (sigilCode g) room l (q .0) named (end-free w) in
+          let m = linked-room b (entriesIn s) (D .at) (D .bits) h x n (sigilCode g) room l (q .0) named (end-free w) in
+          rw (is-linked w l, root-stays (rw (ne-eqb (rootIn s) 0 (λ e. omega arith))))
+          (tree-grown t b (four (linkBook b (entriesIn s) (D .at) (D .bits)) (entriesIn s) h x n (sigilCode g)) (entriesIn s) G (rootIn s) T′
+          (λ e. fresh-new t (linkBook b (entriesIn s) (D .at) (D .bits)) (entriesIn s) h x n g (rootIn s) m tagged (λ i. w) (λ i. walk-grown G (end-walk w) r))
+          (not-plain (linkBook b (entriesIn s) (D .at) (D .bits)) m))

@@ -1,24 +1,24 @@
 -- The words follow the run with a stack.
-use mathlib.Core.Path.{_≡_, refl, sym, ap, _∙_}
+use mathlib.Core.Path.{_≡_, refl, ap, _∙_}
 use mathlib.Core.List.{List, [], _∷_, _++_, append-assoc, append-nil}
 use mathlib.Core.Bool.{Bool, true, false}
-use Prim.Native.Nat.{ℕ, zero, suc, _+_, _*_, _-_, _≤_, _<_, _/_}
+use Prim.Native.Nat.{ℕ, zero, suc, _+_, _*_, _-_, _≤_, _<_}
 use lib.Dec.{ltb}
 use lib.ListN.{length, getD, replicate, length-append, length-set}
 use borrow.Author.Tests.{lt-ltb, le-ltb, eq-eqb, ne-eqb, eqb-true}
 use native.Mathlib.Numerals.{add-one}
 use native.Mathlib.Omega.{arith}
-use Rattle.recorder.specs.declared.codegen.St.{St}
-use Rattle.recorder.specs.Word.{pick, both, wordOf, rangeWord}
+use Rattle.recorder.specs.Word.{both, wordOf, rangeWord}
 use Rattle.recorder.specs.Ideal.{Rec, Note, noteOf, noRec, change, withB}
 use Rattle.recorder.specs.Layout.{recWords, noteWords, wordsOf}
 use Rattle.recorder.specs.Closing.{isWhile, isWend}
-use Rattle.recorder.specs.Mem.{recOf, setB, atRec, linkAt, whileList, whileTop, whilesFrom, topFrom, Passed, openStep, openFrom, withNotes, noteList}
+use Rattle.recorder.specs.Mem.{recOf, setB, atRec, linkAt, whileList, whileTop, whilesFrom, topFrom, Passed, openStep, openFrom, noteList}
 use Rattle.recorder.proofs.Words.{head-again, change-length, squash, raw-at}
 use Rattle.recorder.proofs.Bools.{both-parts, both-false}
 use Rattle.simulation.proofs.Change.{change-front, change-comm, change-twice, change-none, at-change, at-other}
 use Rattle.simulation.proofs.Hide.{freshRec, allFresh}
-use Rattle.simulation.proofs.Sim.{Exact, exact-put, note-form}
+use Rattle.simulation.proofs.Cells.{St, cells, withNotes, noteIn, note-form}
+use Rattle.simulation.proofs.Sim.{Exact, exact-put}
 use Rattle.simulation.proofs.Delays.{Holds, holds-rec, holds-at}
 use Rattle.simulation.proofs.Whiles.{stepP, stepW, runP, runW, Below, below-more, below-step, step-length, notesOf, stepP-plain, stepP-other, seam, at-seam}
 
@@ -197,19 +197,24 @@ run-unknown (r ∷ rs) ps ws k u n b f =
     let q = both-parts (freshRec r) (allFresh rs) f in
     run-unknown rs (stepP ps ws k r) (stepW ws k r) (suc k) (unknown-step ps ws k r rs u n b (q .0) (isWhile r) refl (isWend r) refl) (step-length ps ws k r ∙ ap suc n) (below-step ws k r b) (q .1)
 
+-- the notes, and the numbers: those of the notes, and the rest of St
+pub record Noted (N : ℕ) (is : List Note) (s : St) (P : Passed) : Type 0 where
+  pub many : ℕ
+  pub full : Bool
+  pub exact : Exact noteWords N is (P .notes) many full
+  pub rest : P .st ≡ cells (withNotes s many full)
+
 -- the WHILEs that are still open
 pub record Opened (size N : ℕ) (qs : List Rec) (is : List Note) (s : St) (P : Passed) : Type 0 where
   pub holds : Holds size qs (P .list)
-  pub noted : Exact noteWords N is (P .notes) (P .st .notes) (P .st .nfull)
-  pub rest : P .st ≡ withNotes s (P .st .notes) (P .st .nfull)
+  pub noted : Noted N is s P
 
 -- one of them: its note, and its link gone
-open-one : (size N : ℕ) (qs : List Rec) (w : ℕ) (ws : List ℕ) (is : List Note) (p : Passed) (top : ℕ) → Linked size qs (w ∷ ws) (p .list) top → Below ws w → w < length qs → getD qs w noRec .b ≡ 4294967295
-    → Exact noteWords N is (p .notes) (p .st .notes) (p .st .nfull)
-    → Linked size qs ws (openStep p w .list) (linkAt (p .list) w)
-    × Exact noteWords N (is ++ (noteOf 13 (getD qs w noRec .line) (getD qs w noRec .range) 1 ∷ [])) (openStep p w .notes) (openStep p w .st .notes) (openStep p w .st .nfull)
+open-one : (size N : ℕ) (qs : List Rec) (w : ℕ) (ws : List ℕ) (is : List Note) (s : St) (p : Passed) (top : ℕ) → Linked size qs (w ∷ ws) (p .list) top → Below ws w → w < length qs → getD qs w noRec .b ≡ 4294967295
+    → Noted N is s p
+    → Linked size qs ws (openStep p w .list) (linkAt (p .list) w) × Noted N (is ++ (noteOf 13 (getD qs w noRec .line) (getD qs w noRec .range) 1 ∷ [])) s (openStep p w)
 unfolding noteList
-open-one size N qs w ws is p top h b i u x =
+open-one size N qs w ws is s p top h b i u x =
     let r : Rec = getD qs w noRec in
     let n : w < length (linked qs (w ∷ ws)) = omega (arith, linked-length qs (w ∷ ws)) in
     let t = top-link qs w ws b i in
@@ -224,9 +229,14 @@ open-one size N qs w ws is p top h b i u x =
         holds = rw (← z) (holds-at (setB 4294967295) (withB 4294967295) (λ r ys. refl) (λ p. length-set p 3 4294967295) (h .holds) w n);
         top-is = ap (λ (y : Rec). y .b) (holds-rec (h .holds) w) ∙ ap (λ (y : Rec). y .b) t;
       },
-      rw (note-form (p .notes) (p .st), g, k, head-again 13 (getD qs w noRec .call) (getD qs w noRec .line))
-          (exact-put noteWords (λ e. refl) N is (p .notes) (p .st .notes) (p .st .nfull) (noteOf 13 (getD qs w noRec .line) (getD qs w noRec .range) 1)
-          (wordOf 13 (getD qs w noRec .line)) (rangeWord (getD qs w noRec .range)) 1 0 refl x),
+      record {
+        many = noteIn (p .notes) (withNotes s (x .many) (x .full)) .notes;
+        full = noteIn (p .notes) (withNotes s (x .many) (x .full)) .nfull;
+        exact = rw (x .rest, g, k, head-again 13 (getD qs w noRec .call) (getD qs w noRec .line))
+            (exact-put noteWords (λ e. refl) N is (p .notes) (x .many) (x .full) (noteOf 13 (getD qs w noRec .line) (getD qs w noRec .range) 1)
+            (wordOf 13 (getD qs w noRec .line)) (rangeWord (getD qs w noRec .range)) 1 0 refl (x .exact));
+        rest = rw (x .rest) (note-form (p .notes) (withNotes s (x .many) (x .full)));
+      },
     )
   where
     same-b : (r : Rec) → r .b ≡ 4294967295 → withB 4294967295 r ≡ r
@@ -241,23 +251,22 @@ open-next : (p : Passed) (top w left : ℕ) → top ≡ suc w → openFrom p top
 unfolding openFrom
 open-next p top w left e = let y : top - 1 ≡ w = omega arith in rw (ne-eqb top 0 (λ z. omega arith), y)
 
-keep-rest : (s : St) (u : St) (a : ℕ) (b : Bool) → u ≡ withNotes s (u .notes) (u .nfull) → withNotes u a b ≡ withNotes s a b
-keep-rest s u a b e = ap (λ (z : St). withNotes z a b) e
-
-note-rest : (s : St) (p : Passed) (w : ℕ) → p .st ≡ withNotes s (p .st .notes) (p .st .nfull) → openStep p w .st ≡ withNotes s (openStep p w .st .notes) (openStep p w .st .nfull)
-note-rest s p w v = rw (note-form (p .notes) (p .st)) (keep-rest s (p .st) (pick (ltb (p .st .notes) (length (p .notes) / 4)) (p .st .notes + 1) (p .st .notes)) (pick (ltb (p .st .notes) (length (p .notes) / 4)) (p .st .nfull) true) v)
+-- the others after it
+opened-next : (size N : ℕ) (qs : List Rec) (w : ℕ) (ws : List ℕ) (is : List Note) (s : St) (p : Passed) (top left : ℕ) → top ≡ suc w
+    → Opened size N qs ((is ++ (noteOf 13 (getD qs w noRec .line) (getD qs w noRec .range) 1 ∷ [])) ++ notesOf qs ws) s (openFrom (openStep p w) (linkAt (p .list) w) left)
+    → Opened size N qs (is ++ notesOf qs (w ∷ ws)) s (openFrom p top (suc left))
+unfolding notesOf
+opened-next size N qs w ws is s p top left h o =
+    rw (open-next p top w left h, ← append-assoc is (noteOf 13 (getD qs w noRec .line) (getD qs w noRec .range) 1 ∷ []) (notesOf qs ws)) o
 
 pub open-all : (size N : ℕ) (qs : List Rec) (ws : List ℕ) (is : List Note) (s : St) (p : Passed) (top left m : ℕ) → Linked size qs ws (p .list) top → Below ws m → m ≤ length qs → Unknown qs ws
-    → Exact noteWords N is (p .notes) (p .st .notes) (p .st .nfull) → p .st ≡ withNotes s (p .st .notes) (p .st .nfull) → length ws ≤ left
+    → Noted N is s p → length ws ≤ left
     → Opened size N qs (is ++ notesOf qs ws) s (openFrom p top left)
 unfolding Below Unknown notesOf linked
-open-all size N qs [] is s p top left m h b j u x v f =
-    rw (open-none p top left (h .top-is), append-nil is) (record { holds = h .holds; noted = x; rest = v })
-open-all size N qs (w ∷ ws) is s p top zero m h b j u x v f = absurd (omega arith)
-open-all size N qs (w ∷ ws) is s p top (suc left) m h b j u x v f =
-    let q = open-one size N qs w ws is p top h (b .1) (omega (arith, b .0)) (u .0) x in
-    let e : is ++ (noteOf 13 (getD qs w noRec .line) (getD qs w noRec .range) 1 ∷ notesOf qs ws) ≡ (is ++ (noteOf 13 (getD qs w noRec .line) (getD qs w noRec .range) 1 ∷ [])) ++ notesOf qs ws =
-    sym (append-assoc is (noteOf 13 (getD qs w noRec .line) (getD qs w noRec .range) 1 ∷ []) (notesOf qs ws)) in
-    rw (open-next p top w left (h .top-is), e)
-    (open-all size N qs ws (is ++ (noteOf 13 (getD qs w noRec .line) (getD qs w noRec .range) 1 ∷ [])) s (openStep p w) (linkAt (p .list) w) left w (q .0) (b .1) (omega (arith, b .0)) (u .1) (q .1)
-    (note-rest s p w v) (omega arith))
+open-all size N qs [] is s p top left m h b j u x f =
+    rw (open-none p top left (h .top-is), append-nil is) (record { holds = h .holds; noted = x })
+open-all size N qs (w ∷ ws) is s p top zero m h b j u x f = absurd (omega arith)
+open-all size N qs (w ∷ ws) is s p top (suc left) m h b j u x f =
+    let q = open-one size N qs w ws is s p top h (b .1) (omega (arith, b .0)) (u .0) x in
+    opened-next size N qs w ws is s p top left (h .top-is)
+    (open-all size N qs ws (is ++ (noteOf 13 (getD qs w noRec .line) (getD qs w noRec .range) 1 ∷ [])) s (openStep p w) (linkAt (p .list) w) left w (q .0) (b .1) (omega (arith, b .0)) (u .1) (q .1) (omega arith))

@@ -7,9 +7,8 @@ use native.Mathlib.Numerals.{sub-one}
 use native.Mathlib.Decide.{decLt}
 use native.Mathlib.Omega.{arith}
 use Rattle.recorder.specs.declared.word.Range.{Range}
-use Rattle.recorder.specs.declared.codegen.St.{St}
 use Rattle.recorder.specs.Word.{payloadAt, rangeAt, next, choose}
-use Rattle.recorder.specs.Mem.{Mem, mem, memR, onRec, setA}
+use Rattle.recorder.specs.Mem.{Mem, mem, memR, onRec, setA, asWord, recordsIn}
 use Rattle.sheet.specs.declared.form.Sort.the-variants.{Expr as exprSort, Stmt as stmtSort}
 use Rattle.sheet.specs.declared.form.Shape.the-variants.{If}
 use Rattle.sheet.specs.Table.{shapeFields}
@@ -83,15 +82,15 @@ stmt-if s t base left at k r p n q m m1 h e d b = let f : If ≡ shapeOf k = rw 
     record { place = rw (over s left at k r p h, ← f) (b .place); result = rw (node s left at k r p h, ← f) (b .result) }
 
 -- the condition and its jump
-pub if-head : (s t : List ℕ) (base left : ℕ) (r : Range) (at q j : ℕ) (m m1 m2 : Mem) → CompiledTyped s t base left at Real m m1 q → j ≡ m1 .st .records
+pub if-head : (s t : List ℕ) (base left : ℕ) (r : Range) (at q j : ℕ) (m m1 m2 : Mem) → CompiledTyped s t base left at Real m m1 q → j ≡ asWord (recordsIn (m1 .st))
     → m2 ≡ memR t .emit m1 19 r 4294967295 0 0 → IfHead s t base left r at m m2 q j
 if-head s t base left r at q j m m1 m2 x hj e = record { place = x .place; jump-is = rw (← x .result) hj; result = rw (← x .result) e }
 
-pub ends-here : (l l′ : List ℕ) (s : St) (j h : ℕ) → h ≡ s .records → l′ ≡ onRec (setA h) l s j
+pub ends-here : (l l′ : List ℕ) (s : List ℕ) (j h : ℕ) → h ≡ asWord (recordsIn s) → l′ ≡ onRec (setA h) l s j
     → (t n b : List ℕ) (base : ℕ) → mem l′ n b s ≡ endHere (memR t) t base j (mem l n b s)
 ends-here l l′ s j h e f t n b base = rw (f, e)
 
-pub else-jump : (l l′ l″ : List ℕ) (s s′ : St) (j : ℕ) (r : Range)
+pub else-jump : (l l′ l″ : List ℕ) (s s′ : List ℕ) (j : ℕ) (r : Range)
     → ((t n b : List ℕ) (base : ℕ) → mem l′ n b s′ ≡ elseJump (memR t) t base r (mem l n b s))
     → ((t n b : List ℕ) (base : ℕ) → mem l″ n b s′ ≡ endHere (memR t) t base j (mem l′ n b s′))
     → (t n b : List ℕ) (base : ℕ) → mem l″ n b s′ ≡ endHere (memR t) t base j (elseJump (memR t) t base r (mem l n b s))
@@ -116,7 +115,7 @@ if-then s t base left r at q j p p1 i m m1 m2 m3 h x hi e f hp =
 
 -- an IF with ELSE
 pub if-else : (s t : List ℕ) (base left : ℕ) (r : Range) (at q j p o p1 : ℕ) (i : Bool) (m m1 m2 m3 m4 m5 : Mem) → IfHead s t base left r at m m1 q j → CompiledStmts s t base left q m1 m2 p
-    → i ≡ isAbsent s p → i ≡ false → o ≡ m2 .st .records → m3 ≡ endHere (memR t) t base j (elseJump (memR t) t base r m2) → CompiledStmts s t base left p m3 m4 p1
+    → i ≡ isAbsent s p → i ≡ false → o ≡ asWord (recordsIn (m2 .st)) → m3 ≡ endHere (memR t) t base j (elseJump (memR t) t base r m2) → CompiledStmts s t base left p m3 m4 p1
     → m5 ≡ endHere (memR t) t base o m4 → IfBody s t base left r at m m5 p1
 unfolding compileStmt skipFields skipField skipTimes skipPair skipItem
 if-else s t base left r at q j p o p1 i m m1 m2 m3 m4 m5 h x hi e ho f y g =

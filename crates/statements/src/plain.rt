@@ -1,5 +1,4 @@
 // Statements by their shapes' places in Shape, all but IF: each is compiled by its own function.
-use expressions::expr::Behind;
 use recorder::codegen::St;
 use recorder::word::Range;
 ghost use mathlib.Core.Path.{_≡_};
@@ -9,20 +8,20 @@ ghost use Rattle.expressions.specs.Body.{Body};
 ghost use Rattle.walk.specs.Shapes.{shapeBy};
 
 fn rem_to_draw(
-    sheet: &[u32],
-    text: &[u16],
+    sheet: &&[u32],
+    text: &&[u16],
     list: &mut [u32],
     notes: &mut [u32],
     book: &mut [u32],
-    st: St,
+    st: &mut St,
     base: u32,
     at: usize,
     left: usize,
     k: u32,
     r: Range,
     n: u8,
-) -> Behind
-    ensures { λ x. ⌜ (n < 8 → Body (now (sheet .entry)) (now (text .entry)) base left (shapeBy n) k r at (mem (now (list .entry)) (now (notes .entry)) (now (book .entry)) st) (mem (now (list .exit)) (now (notes .exit)) (now (book .exit)) (x .st)) (x .at)) ⌝ }
+) -> usize
+    ensures { λ x. ⌜ (n < 8 → Body (now (now (sheet .entry))) (now (now (text .entry))) base left (shapeBy n) k r at (mem (now (list .entry)) (now (notes .entry)) (now (book .entry)) (now (st .entry))) (mem (now (list .exit)) (now (notes .exit)) (now (book .exit)) (now (st .exit))) x) ⌝ }
 {
     match n {
         0 => operations::op::compile_rem(sheet, list, st, at, r),
@@ -81,25 +80,25 @@ fn rem_to_draw(
             k,
             r,
         ),
-        _ => Behind { st, at },
+        _ => at,
     }
 }
 
 fn set_to_goto(
-    sheet: &[u32],
-    text: &[u16],
+    sheet: &&[u32],
+    text: &&[u16],
     list: &mut [u32],
     notes: &mut [u32],
     book: &mut [u32],
-    st: St,
+    st: &mut St,
     base: u32,
     at: usize,
     left: usize,
     k: u32,
     r: Range,
     n: u8,
-) -> Behind
-    ensures { λ x. ⌜ (8 ≤ n → n < 16 → Body (now (sheet .entry)) (now (text .entry)) base left (shapeBy n) k r at (mem (now (list .entry)) (now (notes .entry)) (now (book .entry)) st) (mem (now (list .exit)) (now (notes .exit)) (now (book .exit)) (x .st)) (x .at)) ⌝ }
+) -> usize
+    ensures { λ x. ⌜ (8 ≤ n → n < 16 → Body (now (now (sheet .entry))) (now (now (text .entry))) base left (shapeBy n) k r at (mem (now (list .entry)) (now (notes .entry)) (now (book .entry)) (now (st .entry))) (mem (now (list .exit)) (now (notes .exit)) (now (book .exit)) (now (st .exit))) x) ⌝ }
 {
     match n {
         8 => operations::op::compile_set(sheet, text, list, notes, book, st, base, at, left, k, r),
@@ -132,25 +131,25 @@ fn set_to_goto(
         13 => loops::for_loop::compile_for(sheet, text, list, notes, book, st, base, at, left, r),
         14 => jumps::jump::compile_gosub(sheet, list, st, at, r),
         15 => jumps::jump::compile_goto(sheet, list, st, at, r),
-        _ => Behind { st, at },
+        _ => at,
     }
 }
 
 fn input_to_open(
-    sheet: &[u32],
-    text: &[u16],
+    sheet: &&[u32],
+    text: &&[u16],
     list: &mut [u32],
     notes: &mut [u32],
     book: &mut [u32],
-    st: St,
+    st: &mut St,
     base: u32,
     at: usize,
     left: usize,
     k: u32,
     r: Range,
     n: u8,
-) -> Behind
-    ensures { λ x. ⌜ (17 ≤ n → n < 24 → Body (now (sheet .entry)) (now (text .entry)) base left (shapeBy n) k r at (mem (now (list .entry)) (now (notes .entry)) (now (book .entry)) st) (mem (now (list .exit)) (now (notes .exit)) (now (book .exit)) (x .st)) (x .at)) ⌝ }
+) -> usize
+    ensures { λ x. ⌜ (17 ≤ n → n < 24 → Body (now (now (sheet .entry))) (now (now (text .entry))) base left (shapeBy n) k r at (mem (now (list .entry)) (now (notes .entry)) (now (book .entry)) (now (st .entry))) (mem (now (list .exit)) (now (notes .exit)) (now (book .exit)) (now (st .exit))) x) ⌝ }
 {
     match n {
         17 => inputs::input::compile_input(sheet, text, list, notes, book, st, base, at, left, r),
@@ -195,25 +194,25 @@ fn input_to_open(
             k,
             r,
         ),
-        _ => Behind { st, at },
+        _ => at,
     }
 }
 
 fn print_to_write(
-    sheet: &[u32],
-    text: &[u16],
+    sheet: &&[u32],
+    text: &&[u16],
     list: &mut [u32],
     notes: &mut [u32],
     book: &mut [u32],
-    st: St,
+    st: &mut St,
     base: u32,
     at: usize,
     left: usize,
     k: u32,
     r: Range,
     n: u8,
-) -> Behind
-    ensures { λ x. ⌜ (24 ≤ n → n < 31 → Body (now (sheet .entry)) (now (text .entry)) base left (shapeBy n) k r at (mem (now (list .entry)) (now (notes .entry)) (now (book .entry)) st) (mem (now (list .exit)) (now (notes .exit)) (now (book .exit)) (x .st)) (x .at)) ⌝ }
+) -> usize
+    ensures { λ x. ⌜ (24 ≤ n → n < 31 → Body (now (now (sheet .entry))) (now (now (text .entry))) base left (shapeBy n) k r at (mem (now (list .entry)) (now (notes .entry)) (now (book .entry)) (now (st .entry))) (mem (now (list .exit)) (now (notes .exit)) (now (book .exit)) (now (st .exit))) x) ⌝ }
 {
     match n {
         24 => prints::prints::compile_print(
@@ -258,25 +257,25 @@ fn print_to_write(
             k,
             r,
         ),
-        _ => Behind { st, at },
+        _ => at,
     }
 }
 
 pub fn compile_plain(
-    sheet: &[u32],
-    text: &[u16],
+    sheet: &&[u32],
+    text: &&[u16],
     list: &mut [u32],
     notes: &mut [u32],
     book: &mut [u32],
-    st: St,
+    st: &mut St,
     base: u32,
     at: usize,
     left: usize,
     k: u32,
     r: Range,
     n: u8,
-) -> Behind
-    ensures { λ x. ⌜ (n < 31 → (n ≡ 16 → ⊥) → Body (now (sheet .entry)) (now (text .entry)) base left (shapeBy n) k r at (mem (now (list .entry)) (now (notes .entry)) (now (book .entry)) st) (mem (now (list .exit)) (now (notes .exit)) (now (book .exit)) (x .st)) (x .at)) ⌝ }
+) -> usize
+    ensures { λ x. ⌜ (n < 31 → (n ≡ 16 → ⊥) → Body (now (now (sheet .entry))) (now (now (text .entry))) base left (shapeBy n) k r at (mem (now (list .entry)) (now (notes .entry)) (now (book .entry)) (now (st .entry))) (mem (now (list .exit)) (now (notes .exit)) (now (book .exit)) (now (st .exit))) x) ⌝ }
 {
     if n < 8 {
         rem_to_draw(sheet, text, list, notes, book, st, base, at, left, k, r, n)

@@ -9,7 +9,6 @@ use borrow.Author.Tests.{lt-ltb, le-ltb, le-leb, lt-leb, ne-eqb}
 use native.Mathlib.Numerals.{sub-one}
 use native.Mathlib.Omega.{arith}
 use Rattle.recorder.specs.declared.word.Range.{Range}
-use Rattle.recorder.specs.declared.codegen.St.{St}
 use Rattle.recorder.specs.Word.{pick, both, payloadAt, rangeAt, next}
 use Rattle.recorder.specs.Mem.{Mem, mem, memR, byteList, byteSt}
 use Rattle.sheet.specs.declared.form.Sort.the-variants.{Expr as exprSort}
@@ -148,7 +147,7 @@ byte-good t base v r m h = rw (lt-ltb _ _ h)
 pub byte-bad : (t : List ℕ) (base v : ℕ) (r : Range) (m m1 : Mem) → 256 ≤ v → m1 ≡ memR t .note m 12 r 1 → m1 ≡ badByte (memR t) t base (optByte v) r m
 byte-bad t base v r m m1 h p = rw (le-ltb _ _ h) p
 
-pub entry-at : (l o b b′ : List ℕ) (s s′ : St) (x n v : ℕ) → (b′ ≡ byteList b s x n v) × (s′ ≡ byteSt b s) → mem l o b′ s′ ≡ mem l o (byteList b s x n v) (byteSt b s)
+pub entry-at : (l o b b′ : List ℕ) (s s′ : List ℕ) (x n v : ℕ) → (b′ ≡ byteList b s x n v) × (s′ ≡ byteSt b s) → mem l o b′ s′ ≡ mem l o (byteList b s x n v) (byteSt b s)
 entry-at l o b b′ s s′ x n v e = rw (e .0, e .1)
 
 pub load-made : (t : List ℕ) (base v : ℕ) (r : Range) (a n : ℕ) (m m1 : Mem) → v < 256 → a ≡ textPlace base (r .start) → n ≡ r .end - r .start → m1 ≡ memR t .byte m a n v
@@ -171,7 +170,7 @@ bad-step s t base left n at p v r m m1 h hv hr e hp =
     let f : m1 ≡ badByte (memR t) t base (byteOf t base (exprAt s left at)) (exprRange (exprAt s left at)) m = e ∙ ap (λ z. badByte (memR t) t base z r m) hv ∙ ap (λ z. badByte (memR t) t base (byteOf t base (exprAt s left at)) z m) (hr ∙ inv (range-of s left at)) in
     rw (exprs-step s (exprAt s left) (skipNode s left exprSort) n at h, bad-more, f, hp)
 
-pub bad-end : (s t : List ℕ) (base left n k at at₀ : ℕ) (o o₀ : List ℕ) (x x₀ : St) → n ≤ 0 → skipRepeat s (skipNode s left exprSort) n at ≡ skipRepeat s (skipNode s left exprSort) k at₀
+pub bad-end : (s t : List ℕ) (base left n k at at₀ : ℕ) (o o₀ : List ℕ) (x x₀ : List ℕ) → n ≤ 0 → skipRepeat s (skipNode s left exprSort) n at ≡ skipRepeat s (skipNode s left exprSort) k at₀
     → ((l b : List ℕ) → badBytes (memR t) t base (argsAt s left n at) (mem l o b x)
     ≡ badBytes (memR t) t base (argsAt s left k at₀) (mem l o₀ b x₀))
     → BytesNoted s t base left k at₀ o₀ x₀ o x at
@@ -231,7 +230,7 @@ unfolding loadNode exprsAt count
 node-some s t base zero r f g at m h = absurd (h refl)
 node-some s t base (suc n) r f g at m h = let e : count (exprsAt s f g n (g at)) ≡ n = how-many s f g n (g at) in rw e
 
-pub node-bytes : (s t : List ℕ) (base left n : ℕ) (r : Range) (at p first : ℕ) (b : Bool) (l o k o′ : List ℕ) (x x′ : St) (m2 m3 : Mem) → (n ≡ 0 → ⊥) → BytesNoted s t base left n at o x o′ x′ p
+pub node-bytes : (s t : List ℕ) (base left n : ℕ) (r : Range) (at p first : ℕ) (b : Bool) (l o k o′ : List ℕ) (x x′ : List ℕ) (m2 m3 : Mem) → (n ≡ 0 → ⊥) → BytesNoted s t base left n at o x o′ x′ p
     → b ≡ allBytes (memR t) t base (argsAt s left n at) → b ≡ true → first ≡ memR t .nextByte (mem l o′ k x′)
     → m2 ≡ loadBytes (memR t) t base (argsAt s left n at) (mem l o′ k x′) → m3 ≡ memR t .emit m2 35 r first n 0
     → Loaded s t base left n r at (mem l o k x) m3 p
@@ -242,7 +241,7 @@ node-bytes s t base left n r at p first b l o k o′ x x′ m2 m3 h u hb g hf e 
       result = rw (node-some s t base n r (exprAt s left) (skipNode s left exprSort) at (mem l o k x) h, q, ← u .result l k, f, e, hf);
     }
 
-pub node-bad : (s t : List ℕ) (base left n : ℕ) (r : Range) (at p : ℕ) (b : Bool) (l o k o′ : List ℕ) (x x′ : St) → (n ≡ 0 → ⊥) → BytesNoted s t base left n at o x o′ x′ p
+pub node-bad : (s t : List ℕ) (base left n : ℕ) (r : Range) (at p : ℕ) (b : Bool) (l o k o′ : List ℕ) (x x′ : List ℕ) → (n ≡ 0 → ⊥) → BytesNoted s t base left n at o x o′ x′ p
     → b ≡ allBytes (memR t) t base (argsAt s left n at) → b ≡ false → Loaded s t base left n r at (mem l o k x) (mem l o′ k x′) p
 node-bad s t base left n r at p b l o k o′ x x′ h u hb g =
     let q : allBytes (memR t) t base (argsAt s left n at) ≡ false = inv hb ∙ g in

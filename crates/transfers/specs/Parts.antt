@@ -4,7 +4,6 @@ use mathlib.Core.List.{List}
 use Prim.Native.Nat.{ℕ}
 use lib.Dec.{ltb, eqb}
 use Rattle.recorder.specs.declared.word.Range.{Range}
-use Rattle.recorder.specs.declared.codegen.St.{St}
 use Rattle.recorder.specs.Word.{pick, next, choose}
 use Rattle.recorder.specs.Recorder.{Recorder}
 use Rattle.recorder.specs.Mem.{Mem, mem, memR}
@@ -30,7 +29,7 @@ abbrev pub optByte : ℕ → Opt ℕ
 optByte n = pick (ltb n 256) (given n) absent
 
 -- the notes for n arguments of LOAD from a place on
-pub record BytesNoted (s t : List ℕ) (base left n at : ℕ) (o : List ℕ) (st : St) (o′ : List ℕ) (st′ : St) (p : ℕ) : Type 0 where
+pub record BytesNoted (s t : List ℕ) (base left n at : ℕ) (o : List ℕ) (st : List ℕ) (o′ : List ℕ) (st′ : List ℕ) (p : ℕ) : Type 0 where
   pub place : p ≡ skipRepeat s (skipNode s left exprSort) n at
   pub result : (l b : List ℕ) → mem l o′ b st′ ≡ badBytes (memR t) t base (argsAt s left n at) (mem l o b st)
 

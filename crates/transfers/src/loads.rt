@@ -1,5 +1,4 @@
 // compile_load of compiler.rs.
-use expressions::expr::Behind;
 use recorder::codegen::St;
 use recorder::word::Range;
 use rules::types::Type;
@@ -93,40 +92,38 @@ fn byte_of(sheet: &[u32], text: &[u16], base: u32, at: usize, left: usize) -> u3
 }
 
 // A note of class 12 for what is no byte.
-fn bad_byte(notes: &mut [u32], st: St, v: u32, r: Range) -> St
-    ensures { λ x. ⌜ ((t l b : List ℕ) (base : ℕ) → mem l (now (notes .exit)) b x ≡ badByte (memR t) t base (optByte v) r (mem l (now (notes .entry)) b st)) ⌝ }
+fn bad_byte(notes: &mut [u32], st: &mut St, v: u32, r: Range)
+    ensures { λ _. ⌜ ((t l b : List ℕ) (base : ℕ) → mem l (now (notes .exit)) b (now (st .exit)) ≡ badByte (memR t) t base (optByte v) r (mem l (now (notes .entry)) b (now (st .entry)))) ⌝ }
 {
     if v < 256 {
-        st
-    } else {
-        recorder::codegen::note(notes, st, 12, r, 1)
+        return;
     }
+    recorder::codegen::note(notes, st, 12, r, 1)
 }
 
 // The notes for so many arguments, and the place behind them.
 fn bad_bytes(
-    sheet: &[u32],
-    text: &[u16],
+    sheet: &&[u32],
+    text: &&[u16],
     notes: &mut [u32],
-    st: St,
+    st: &mut St,
     base: u32,
     at: usize,
     left: usize,
     n: u32,
-) -> Behind
-    ensures { λ x. ⌜ BytesNoted (now (sheet .entry)) (now (text .entry)) base left n at (now (notes .entry)) st (now (notes .exit)) (x .st) (x .at) ⌝ }
+) -> usize
+    ensures { λ x. ⌜ BytesNoted (now (now (sheet .entry))) (now (now (text .entry))) base left n at (now (notes .entry)) (now (st .entry)) (now (notes .exit)) (now (st .exit)) x ⌝ }
 {
-    let mut s = st;
     let mut p = at;
     let mut more = n;
     while 0 < more {
-        let v = byte_of(sheet, text, base, p, left);
-        let r = expressions::expr::node_range(sheet, p);
-        s = bad_byte(notes, s, v, r);
-        p = walk::stmt::skip_expr(sheet, p, left);
+        let v = byte_of(*sheet, *text, base, p, left);
+        let r = expressions::expr::node_range(*sheet, p);
+        bad_byte(notes, st, v, r);
+        p = walk::stmt::skip_expr(*sheet, p, left);
         more -= 1;
     }
-    Behind { st: s, at: p }
+    p
 }
 
 // Whether each of so many arguments is a byte.
@@ -146,93 +143,88 @@ fn all_bytes(sheet: &[u32], text: &[u16], base: u32, at: usize, left: usize, n: 
 }
 
 // An entry of the book for a byte.
-fn load_one(book: &mut [u32], st: St, base: u32, v: u32, r: Range) -> St
-    ensures { λ x. ⌜ ((t l o : List ℕ) → mem l o (now (book .exit)) x ≡ loadByte (memR t) t base (optByte v) r (mem l o (now (book .entry)) st)) ⌝ }
+fn load_one(book: &mut [u32], st: &mut St, base: u32, v: u32, r: Range)
+    ensures { λ _. ⌜ ((t l o : List ℕ) → mem l o (now (book .exit)) (now (st .exit)) ≡ loadByte (memR t) t base (optByte v) r (mem l o (now (book .entry)) (now (st .entry)))) ⌝ }
 {
     if v < 256 {
         let a = rules::name::text_place(base, r.start as u32);
         let n = rules::name::units(r);
         recorder::codegen::load_byte(book, st, a, n, v)
-    } else {
-        st
     }
 }
 
 fn load_bytes(
-    sheet: &[u32],
-    text: &[u16],
+    sheet: &&[u32],
+    text: &&[u16],
     book: &mut [u32],
-    st: St,
+    st: &mut St,
     base: u32,
     at: usize,
     left: usize,
     n: u32,
-) -> St
-    ensures { λ x. ⌜ ((l o : List ℕ) → mem l o (now (book .exit)) x ≡ loadBytes (memR (now (text .entry))) (now (text .entry)) base (argsAt (now (sheet .entry)) left n at) (mem l o (now (book .entry)) st)) ⌝ }
+)
+    ensures { λ _. ⌜ ((l o : List ℕ) → mem l o (now (book .exit)) (now (st .exit)) ≡ loadBytes (memR (now (now (text .entry)))) (now (now (text .entry))) base (argsAt (now (now (sheet .entry))) left n at) (mem l o (now (book .entry)) (now (st .entry)))) ⌝ }
 {
-    let mut s = st;
     let mut p = at;
     let mut more = n;
     while 0 < more {
-        let v = byte_of(sheet, text, base, p, left);
-        let r = expressions::expr::node_range(sheet, p);
-        s = load_one(book, s, base, v, r);
-        p = walk::stmt::skip_expr(sheet, p, left);
+        let v = byte_of(*sheet, *text, base, p, left);
+        let r = expressions::expr::node_range(*sheet, p);
+        load_one(book, st, base, v, r);
+        p = walk::stmt::skip_expr(*sheet, p, left);
         more -= 1;
     }
-    s
 }
 
 // From the argument behind the first on, n of them.
 fn load_node(
-    sheet: &[u32],
-    text: &[u16],
+    sheet: &&[u32],
+    text: &&[u16],
     list: &mut [u32],
     notes: &mut [u32],
     book: &mut [u32],
-    st: St,
+    st: &mut St,
     base: u32,
     at: usize,
     left: usize,
     n: u32,
     r: Range,
-) -> Behind
-    ensures { λ x. ⌜ Loaded (now (sheet .entry)) (now (text .entry)) base left n r at (mem (now (list .entry)) (now (notes .entry)) (now (book .entry)) st) (mem (now (list .exit)) (now (notes .exit)) (now (book .exit)) (x .st)) (x .at) ⌝ }
+) -> usize
+    ensures { λ x. ⌜ Loaded (now (now (sheet .entry))) (now (now (text .entry))) base left n r at (mem (now (list .entry)) (now (notes .entry)) (now (book .entry)) (now (st .entry))) (mem (now (list .exit)) (now (notes .exit)) (now (book .exit)) (now (st .exit))) x ⌝ }
 {
     if n == 0 {
-        let s = recorder::codegen::note(notes, st, 6, r, 1);
-        return Behind { st: s, at };
+        recorder::codegen::note(notes, st, 6, r, 1);
+        return at;
     }
     let x = bad_bytes(sheet, text, notes, st, base, at, left, n);
-    let xs = x.st;
-    if all_bytes(sheet, text, base, at, left, n) {
-        let first = recorder::codegen::next_byte(xs);
-        let ls = load_bytes(sheet, text, book, xs, base, at, left, n);
-        let s = recorder::codegen::emit_load_bytes(list, ls, r, first, n);
-        Behind { st: s, at: x.at }
+    if all_bytes(*sheet, *text, base, at, left, n) {
+        let first = recorder::codegen::next_byte(st);
+        load_bytes(sheet, text, book, st, base, at, left, n);
+        recorder::codegen::emit_load_bytes(list, st, r, first, n);
+        x
     } else {
-        Behind { st: xs, at: x.at }
+        x
     }
 }
 
 pub fn compile_load(
-    sheet: &[u32],
-    text: &[u16],
+    sheet: &&[u32],
+    text: &&[u16],
     list: &mut [u32],
     notes: &mut [u32],
     book: &mut [u32],
-    st: St,
+    st: &mut St,
     base: u32,
     at: usize,
     left: usize,
     k: u32,
     r: Range,
-) -> Behind
-    ensures { λ x. ⌜ Body (now (sheet .entry)) (now (text .entry)) base left Shape.Load k r at (mem (now (list .entry)) (now (notes .entry)) (now (book .entry)) st) (mem (now (list .exit)) (now (notes .exit)) (now (book .exit)) (x .st)) (x .at) ⌝ }
+) -> usize
+    ensures { λ x. ⌜ Body (now (now (sheet .entry))) (now (now (text .entry))) base left Shape.Load k r at (mem (now (list .entry)) (now (notes .entry)) (now (book .entry)) (now (st .entry))) (mem (now (list .exit)) (now (notes .exit)) (now (book .exit)) (now (st .exit))) x ⌝ }
 {
-    let c = expressions::expr::read_payload(sheet, at);
+    let c = expressions::expr::read_payload(*sheet, at);
     if c.value == 0 {
-        return Behind { st, at: c.at };
+        return c.at;
     }
     let x = expressions::expr::compile_typed(
         sheet,
@@ -246,16 +238,15 @@ pub fn compile_load(
         left,
         Type::Real,
     );
-    let xs = x.st;
     load_node(
         sheet,
         text,
         list,
         notes,
         book,
-        xs,
+        st,
         base,
-        x.at,
+        x,
         left,
         c.value - 1,
         r,

@@ -1,5 +1,4 @@
 // compile_open of compiler.rs.
-use expressions::expr::Behind;
 use recorder::codegen::St;
 use recorder::word::Range;
 use rules::types::Type;
@@ -13,81 +12,77 @@ ghost use Rattle.expressions.specs.Body.{Body};
 ghost use Rattle.transfers.specs.Parts.{Opened, openCall};
 
 // LEN with a mode that is neither Error nor Random.
-fn len_note(notes: &mut [u32], st: St, mode: u32, r: Range) -> St
-    ensures { λ x. ⌜ ((t l b : List ℕ) (base : ℕ) → mem l (now (notes .exit)) b x ≡ lenNotes (memR t) t base mode r (mem l (now (notes .entry)) b st)) ⌝ }
+fn len_note(notes: &mut [u32], st: &mut St, mode: u32, r: Range)
+    ensures { λ _. ⌜ ((t l b : List ℕ) (base : ℕ) → mem l (now (notes .exit)) b (now (st .exit)) ≡ lenNotes (memR t) t base mode r (mem l (now (notes .entry)) b (now (st .entry)))) ⌝ }
 {
     if 1 < mode {
         recorder::codegen::note(notes, st, 12, r, 1)
-    } else {
-        st
     }
 }
 
 // The call behind LEN, which the mode Error does not get.
-fn open_call(list: &mut [u32], st: St, mode: u32, r: Range) -> St
-    ensures { λ x. ⌜ ((t o b : List ℕ) → mem (now (list .exit)) o b x ≡ openCall (memR t) mode r (mem (now (list .entry)) o b st)) ⌝ }
+fn open_call(list: &mut [u32], st: &mut St, mode: u32, r: Range)
+    ensures { λ _. ⌜ ((t o b : List ℕ) → mem (now (list .exit)) o b (now (st .exit)) ≡ openCall (memR t) mode r (mem (now (list .entry)) o b (now (st .entry)))) ⌝ }
 {
     if mode == 0 {
-        st
-    } else {
-        recorder::codegen::emit_open(list, st, r, mode, 1)
+        return;
     }
+    recorder::codegen::emit_open(list, st, r, mode, 1)
 }
 
 // From LEN on, which may be absent.
 fn open_node(
-    sheet: &[u32],
-    text: &[u16],
+    sheet: &&[u32],
+    text: &&[u16],
     list: &mut [u32],
     notes: &mut [u32],
     book: &mut [u32],
-    st: St,
+    st: &mut St,
     base: u32,
     at: usize,
     left: usize,
     mode: u32,
     r: Range,
-) -> Behind
-    ensures { λ x. ⌜ Opened (now (sheet .entry)) (now (text .entry)) base left mode r at (mem (now (list .entry)) (now (notes .entry)) (now (book .entry)) st) (mem (now (list .exit)) (now (notes .exit)) (now (book .exit)) (x .st)) (x .at) ⌝ }
+) -> usize
+    ensures { λ x. ⌜ Opened (now (now (sheet .entry))) (now (now (text .entry))) base left mode r at (mem (now (list .entry)) (now (notes .entry)) (now (book .entry)) (now (st .entry))) (mem (now (list .exit)) (now (notes .exit)) (now (book .exit)) (now (st .exit))) x ⌝ }
 {
-    let q = recorder::word::behind(sheet, at);
-    if sheet::leaf::is_absent(sheet, at) {
-        let s = recorder::codegen::emit_open(list, st, r, mode, 0);
-        return Behind { st: s, at: q };
+    let q = recorder::word::behind(*sheet, at);
+    if sheet::leaf::is_absent(*sheet, at) {
+        recorder::codegen::emit_open(list, st, r, mode, 0);
+        return q;
     }
-    let lr = recorder::word::range_at(sheet, at);
-    let ns = len_note(notes, st, mode, lr);
+    let lr = recorder::word::range_at(*sheet, at);
+    len_note(notes, st, mode, lr);
     let x = expressions::expr::compile_typed(
         sheet,
         text,
         list,
         notes,
         book,
-        ns,
+        st,
         base,
         q,
         left,
         Type::Real,
     );
-    let xs = x.st;
-    let s = open_call(list, xs, mode, r);
-    Behind { st: s, at: x.at }
+    open_call(list, st, mode, r);
+    x
 }
 
 pub fn compile_open(
-    sheet: &[u32],
-    text: &[u16],
+    sheet: &&[u32],
+    text: &&[u16],
     list: &mut [u32],
     notes: &mut [u32],
     book: &mut [u32],
-    st: St,
+    st: &mut St,
     base: u32,
     at: usize,
     left: usize,
     k: u32,
     r: Range,
-) -> Behind
-    ensures { λ x. ⌜ Body (now (sheet .entry)) (now (text .entry)) base left Shape.Open k r at (mem (now (list .entry)) (now (notes .entry)) (now (book .entry)) st) (mem (now (list .exit)) (now (notes .exit)) (now (book .exit)) (x .st)) (x .at) ⌝ }
+) -> usize
+    ensures { λ x. ⌜ Body (now (now (sheet .entry))) (now (now (text .entry))) base left Shape.Open k r at (mem (now (list .entry)) (now (notes .entry)) (now (book .entry)) (now (st .entry))) (mem (now (list .exit)) (now (notes .exit)) (now (book .exit)) (now (st .exit))) x ⌝ }
 {
     let f = expressions::expr::compile_typed(
         sheet,
@@ -101,30 +96,28 @@ pub fn compile_open(
         left,
         Type::String,
     );
-    let fs = f.st;
-    let m = expressions::expr::read_payload(sheet, f.at);
+    let m = expressions::expr::read_payload(*sheet, f);
     let e = expressions::expr::compile_typed(
         sheet,
         text,
         list,
         notes,
         book,
-        fs,
+        st,
         base,
         m.at,
         left,
         Type::Real,
     );
-    let es = e.st;
     open_node(
         sheet,
         text,
         list,
         notes,
         book,
-        es,
+        st,
         base,
-        e.at,
+        e,
         left,
         m.value,
         r,

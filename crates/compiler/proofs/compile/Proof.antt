@@ -7,12 +7,12 @@ use Rattle.compiler.proofs.compile.Statement.{statement}
 use Rattle.compiler.proofs.compile.Tie as tie
 use Rattle.compiler.proofs.compile.Reads as reads
 use Rattle.compiler.proofs.compile.Lts as lts
+use Rattle.acceptance.proofs.check.Reads as check-reads
 use Rattle.compiler.proofs.compile_accepted.Reads as compile-accepted-reads
 use Rattle.compiler.proofs.refuse.Reads as refuse-reads
 use Rattle.recorder.proofs.codegen.clear.Reads as clear-reads
 use Rattle.sheet.proofs.form.refusal_number.Reads as refusal-number-reads
 use Rattle.sheet.proofs.form.refusal_place.Reads as refusal-place-reads
-use Rattle.acceptance.proofs.check.Reads as check-reads
 
 -- src/lib.rt:114:9
 check-requires : tie.Need-check-requires

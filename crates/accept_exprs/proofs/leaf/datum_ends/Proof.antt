@@ -9,15 +9,15 @@ use Rattle.accept_exprs.proofs.leaf.datum_ends.Lts as lts
 use Rattle.accept_exprs.proofs.leaf.ends.Reads as ends-reads
 use Rattle.sheet.proofs.leaf.datum_form.Reads as datum-form-reads
 
--- src/leaf.rt:57:10
+-- src/leaf.rt:70:10
 datum-form-requires : tie.Need-datum-form-requires
 datum-form-requires c κs = search needs
 
--- src/leaf.rt:57:5
+-- src/leaf.rt:70:5
 ends-requires : tie.Need-ends-requires
 ends-requires c κs = search needs
 
--- src/leaf.rt:54:1
+-- src/leaf.rt:67:1
 returns : tie.Need-returns
 returns c = reach-leaf (c .before .before .before .args .sheet .now) _ _ _ _ (datum-ends (c .before .before .before .args .sheet .now) (lineFrom (c .before .before .before .args .base) (c .before .before .before .args .len)) (c .before .before .before .args .at)) (c .before .datum-form .ensures) (c .ends .ensures)
 

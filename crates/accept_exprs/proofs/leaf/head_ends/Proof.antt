@@ -8,15 +8,15 @@ use Rattle.accept_exprs.proofs.leaf.head_ends.Lts as lts
 use Rattle.accept_exprs.proofs.leaf.ends.Reads as ends-reads
 use Rattle.sheet.proofs.leaf.head_form.Reads as head-form-reads
 
--- src/leaf.rt:90:10
+-- src/leaf.rt:103:10
 head-form-requires : tie.Need-head-form-requires
 head-form-requires c κs = search needs
 
--- src/leaf.rt:90:5
+-- src/leaf.rt:103:5
 ends-requires : tie.Need-ends-requires
 ends-requires c κs = search needs
 
--- src/leaf.rt:87:1
+-- src/leaf.rt:100:1
 returns : tie.Need-returns
 returns c = reach-leaf (c .before .before .before .args .sheet .now) _ _ _ _ (head-ends (c .before .before .before .args .sheet .now) (c .before .before .before .args .c) (c .before .before .before .args .at)) (c .before .head-form .ensures) (c .ends .ensures)
 

@@ -8,15 +8,15 @@ use Rattle.accept_exprs.proofs.leaf.non_empty_ends.Lts as lts
 use Rattle.accept_exprs.proofs.leaf.ends.Reads as ends-reads
 use Rattle.sheet.proofs.leaf.non_empty_form.Reads as non-empty-form-reads
 
--- src/leaf.rt:76:10
+-- src/leaf.rt:89:10
 non-empty-form-requires : tie.Need-non-empty-form-requires
 non-empty-form-requires c κs = search needs
 
--- src/leaf.rt:76:5
+-- src/leaf.rt:89:5
 ends-requires : tie.Need-ends-requires
 ends-requires c κs = search needs
 
--- src/leaf.rt:73:1
+-- src/leaf.rt:86:1
 returns : tie.Need-returns
 returns c = reach-leaf (c .before .before .before .args .sheet .now) _ _ _ _ (non-empty-ends (c .before .before .before .args .sheet .now) (c .before .before .before .args .at)) (c .before .non-empty-form .ensures) (c .ends .ensures)
 

@@ -9,6 +9,10 @@ use Rattle.closing.proofs.closing.open_whiles.Reads as open-whiles-read
 use Rattle.closing.proofs.closing.present_of.Reads as present-of-reads
 use Rattle.recorder.proofs.codegen.put.Reads as put-reads
 
+-- src/closing.rt:379:36
+element-copy-out-present-of : tie.Need-element-copy-out-present-of
+element-copy-out-present-of c = search needs
+
 -- src/closing.rt:379:9
 present-of-requires : tie.Need-present-of-requires
 present-of-requires c κs = search needs
@@ -17,7 +21,7 @@ present-of-requires c κs = search needs
 close-loops-requires : tie.Need-close-loops-requires
 close-loops-requires c κs = search needs
 
--- src/closing.rt:381:9
+-- src/closing.rt:381:5
 open-whiles-requires : tie.Need-open-whiles-requires
 open-whiles-requires c κs = search needs
 
@@ -35,12 +39,13 @@ same-length-2 c = search needs
 
 -- src/closing.rt:376:1
 returns : tie.Need-returns
-returns c = clean-done _ _ _ _ _ _ _ _ _ _ _ (c .before .before .before .before .before .before .before .before .before .before .before .before .before .before .before .present-of .ensures) (c .before .before .before .before .before .before .before .before .before .before .before .before .before .close-loops .ensures) (c .before .before .before .before .before .before .before .before .open-whiles .ensures) (c .before .before .put .ensures)
+returns c = clean-done _ _ _ _ _ _ _ _ _ _ _ (c .before .before .before .before .before .before .before .before .before .before .before .before .before .before .before .before .before .present-of .ensures) (c .before .before .before .before .before .before .before .before .before .before .before .before .before .before .before .close-loops .ensures) (c .before .before .before .before .before .before .before .before .before .open-whiles .ensures) (c .before .before .put .ensures)
 
 pub clean-up-spec : {M : Type 1} → statement M
 clean-up-spec =
     tie.close
     (tie.spec
+    element-copy-out-present-of
     present-of-requires
     close-loops-requires
     open-whiles-requires

@@ -7,19 +7,19 @@ use Rattle.closing.proofs.closing.is_wend.Lts as lts
 use Rattle.closing.proofs.closing.a_of.Reads as a-of-reads
 use Rattle.closing.proofs.closing.call_of.Reads as call-of-reads
 
--- src/closing.rt:77:8
+-- src/closing.rt:79:8
 call-of-requires : tie.Need-call-of-requires
 call-of-requires c κs = search needs
 
--- src/closing.rt:78:9
+-- src/closing.rt:80:9
 returns : tie.Need-returns
 returns c = simp (ne-eqb _ _ (rw (c .before .call-of .ensures) at (c .if1 .taken)))
 
--- src/closing.rt:80:5
+-- src/closing.rt:82:5
 a-of-requires : tie.Need-a-of-requires
 a-of-requires c κs = search needs
 
--- src/closing.rt:74:1
+-- src/closing.rt:76:1
 returns-2 : tie.Need-returns-2
 returns-2 c = simp (eq-eqb _ _ (rw (c .before .before .call-of .ensures) at (c .before .if1 .left)), (c .a-of .ensures))
 

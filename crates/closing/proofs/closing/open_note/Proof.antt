@@ -8,37 +8,37 @@ use Rattle.recorder.proofs.codegen.put_note.Reads as put-note-reads
 use Rattle.recorder.proofs.word.word_at.Reads as word-at-reads
 use Rattle.recorder.proofs.word.word_of.Reads as word-of-reads
 
--- src/closing.rt:108:16
+-- src/closing.rt:110:16
 mul-from : tie.Need-mul-from
 mul-from c = search needs
 
--- src/closing.rt:109:25
+-- src/closing.rt:111:25
 word-at-requires : tie.Need-word-at-requires
 word-at-requires c κs = search needs
 
--- src/closing.rt:109:9
+-- src/closing.rt:111:9
 word-of-requires : tie.Need-word-of-requires
 word-of-requires c κs = search needs
 
--- src/closing.rt:110:42
+-- src/closing.rt:112:42
 add-word-at : tie.Need-add-word-at
 add-word-at c = search needs
 
--- src/closing.rt:110:28
+-- src/closing.rt:112:28
 word-at-requires-2 : tie.Need-word-at-requires-2
 word-at-requires-2 c κs = search needs
 
--- src/closing.rt:110:5
+-- src/closing.rt:112:5
 put-note-requires : tie.Need-put-note-requires
 put-note-requires c κs = search needs
 
--- src/closing.rt:105:1
+-- src/closing.rt:107:1
 same-length : tie.Need-same-length
 same-length c = search needs
 
--- src/closing.rt:105:1
+-- src/closing.rt:107:1
 returns : tie.Need-returns
-returns c = rw ((c .before .before .put-note .ensures .0), (c .before .before .put-note .ensures .1), (c .before .before .before .before .before .word-of .ensures), (c .before .before .before .before .before .before .word-at .ensures), (c .before .before .before .word-at2 .ensures)) (refl, refl)
+returns c = rw ((c .before .before .put-note .ensures .0), (c .before .before .put-note .ensures .1), (c .before .before .before .before .before .before .word-of .ensures), (c .before .before .before .before .before .before .before .word-at .ensures), (c .before .before .before .word-at2 .ensures)) (refl, refl)
 
 pub open-note-spec : {M : Type 1} → statement M
 open-note-spec =

@@ -13,10 +13,14 @@ use Rattle.closing.proofs.closing.unlink_at.Reads as unlink-at-reads
 use Rattle.recorder.proofs.codegen.least.Reads as least-reads
 
 abbrev Inv-loop : tie.InvT-loop
-Inv-loop book₀ end k₀ book k = (unlinkFrom book k (end - k) ≡ unlinkFrom book₀ k₀ (end - k₀)) × (length book ≡ length book₀)
+Inv-loop book₀ st end k₀ book k = (unlinkFrom book k (end - k) ≡ unlinkFrom book₀ k₀ (end - k₀)) × (length book ≡ length book₀)
 
 abbrev μ-loop : tie.MeasureT-loop
-μ-loop book₀ end k₀ book k = end - k
+μ-loop book₀ st end k₀ book k = end - k
+
+-- src/closing.rt:416:21
+element-copy-out-least : tie.Need-element-copy-out-least Inv-loop μ-loop
+element-copy-out-least c = omega arith
 
 -- src/closing.rt:416:9
 least-requires : tie.Need-least-requires Inv-loop μ-loop
@@ -56,6 +60,7 @@ unlink-names-spec =
     (tie.spec
     Inv-loop
     μ-loop
+    element-copy-out-least
     least-requires
     loop-holds
     unlink-at-requires

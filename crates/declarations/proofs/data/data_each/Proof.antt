@@ -21,58 +21,58 @@ use Rattle.recorder.proofs.word.payload_at.Reads as payload-at-reads
 use Rattle.recorder.proofs.word.range_at.Reads as range-at-reads
 
 abbrev Inv-loop : tie.InvT-loop
-Inv-loop sheet text notes₀ book₀ base at n s₀ p₀ more₀ notes book s p more = (length notes ≡ length notes₀) × (length book ≡ length book₀)
-    × (skipRepeat sheet (twoOn sheet) more p ≡ skipRepeat sheet (twoOn sheet) n at)
-    × ((l : List ℕ) → compileData (memR text) text base (itemsAt sheet (datumAt sheet) (twoOn sheet) more p) (mem l notes book s) ≡ compileData (memR text) text base (itemsAt sheet (datumAt sheet) (twoOn sheet) n at) (mem l notes₀ book₀ s₀))
+Inv-loop sheet text notes₀ book₀ st₀ base at n p₀ more₀ notes book st p more = (length notes ≡ length notes₀) × (length book ≡ length book₀)
+    × (skipRepeat (sheet .now) (twoOn (sheet .now)) more p ≡ skipRepeat (sheet .now) (twoOn (sheet .now)) n at)
+    × ((l : List ℕ) → compileData (memR (text .now)) (text .now) base (itemsAt (sheet .now) (datumAt (sheet .now)) (twoOn (sheet .now)) more p) (mem l notes book st) ≡ compileData (memR (text .now)) (text .now) base (itemsAt (sheet .now) (datumAt (sheet .now)) (twoOn (sheet .now)) n at) (mem l notes₀ book₀ st₀))
 
 abbrev μ-loop : tie.MeasureT-loop
-μ-loop sheet text notes₀ book₀ base at n s₀ p₀ more₀ notes book s p more = more
+μ-loop sheet text notes₀ book₀ st₀ base at n p₀ more₀ notes book st p more = more
 
--- src/data.rt:73:5
+-- src/data.rt:69:5
 loop-holds : tie.Need-loop-holds Inv-loop μ-loop
 loop-holds c = (refl, refl, refl, λ l. refl)
 
--- src/data.rt:74:13
+-- src/data.rt:70:13
 range-at-requires : tie.Need-range-at-requires Inv-loop μ-loop
 range-at-requires c κs = search needs
 
--- src/data.rt:75:13
+-- src/data.rt:71:13
 behind-requires : tie.Need-behind-requires Inv-loop μ-loop
 behind-requires c κs = search needs
 
--- src/data.rt:76:13
+-- src/data.rt:72:13
 payload-at-requires : tie.Need-payload-at-requires Inv-loop μ-loop
 payload-at-requires c κs = search needs
 
--- src/data.rt:77:9
+-- src/data.rt:73:9
 datum-node-requires : tie.Need-datum-node-requires Inv-loop μ-loop
 datum-node-requires c κs = search needs
 
--- src/data.rt:78:9
+-- src/data.rt:74:9
 behind-requires-2 : tie.Need-behind-requires-2 Inv-loop μ-loop
 behind-requires-2 c κs = search needs
 
--- src/data.rt:79:9
+-- src/data.rt:75:9
 sub-more : tie.Need-sub-more Inv-loop μ-loop
 sub-more c = omega arith
 
--- src/data.rt:73:5
+-- src/data.rt:69:5
 loop-less : tie.Need-loop-less Inv-loop μ-loop
 loop-less c = omega arith
 
--- src/data.rt:73:5
+-- src/data.rt:69:5
 loop-again : tie.Need-loop-again Inv-loop μ-loop
-loop-again c = ((c .before .before .before .before .before .datum-node .kept .1 .0) ∙ (c .before .before .before .before .before .before .before .before .before .before .before .before .loop .inv .0), (c .before .before .before .before .before .datum-node .kept .1 .1 .0) ∙ (c .before .before .before .before .before .before .before .before .before .before .before .before .loop .inv .1), step-two _ _ _ _ _ (c .before .before .before .before .before .before .before .before .before .before .before .loop-test .taken) (c .before .before .before .before .before .before .before .before .before .behind .ensures) (c .behind2 .ensures) ∙ (c .before .before .before .before .before .before .before .before .before .before .before .before .loop .inv .2), λ l. step-data _ _ _ _ _ _ _ _ _ _ _ (c .before .before .before .before .before .before .before .before .before .before .before .loop-test .taken) (c .before .before .before .before .before .before .before .before .before .before .range-at .ensures) (c .before .before .before .before .before .before .before .before .before .behind .ensures) (c .before .before .before .before .before .before .before .before .payload-at .ensures) (c .behind2 .ensures) ((c .before .before .before .before .before .datum-node .ensures) l) ∙ (c .before .before .before .before .before .before .before .before .before .before .before .before .loop .inv .3) l)
+loop-again c = ((c .before .before .before .before .before .before .datum-node .kept .1 .0) ∙ (c .before .before .before .before .before .before .before .before .before .before .before .before .before .before .before .before .before .loop .inv .0), (c .before .before .before .before .before .before .datum-node .kept .1 .1 .0) ∙ (c .before .before .before .before .before .before .before .before .before .before .before .before .before .before .before .before .before .loop .inv .1), step-two _ _ _ _ _ (c .before .before .before .before .before .before .before .before .before .before .before .before .before .before .before .before .loop-test .taken) (c .before .before .before .before .before .before .before .before .before .before .before .before .behind .ensures) (c .behind2 .ensures) ∙ (c .before .before .before .before .before .before .before .before .before .before .before .before .before .before .before .before .before .loop .inv .2), λ l. step-data _ _ _ _ _ _ _ _ _ _ _ (c .before .before .before .before .before .before .before .before .before .before .before .before .before .before .before .before .loop-test .taken) (c .before .before .before .before .before .before .before .before .before .before .before .before .before .before .range-at .ensures) (c .before .before .before .before .before .before .before .before .before .before .before .before .behind .ensures) (c .before .before .before .before .before .before .before .before .before .before .payload-at .ensures) (c .behind2 .ensures) ((c .before .before .before .before .before .before .datum-node .ensures) l) ∙ (c .before .before .before .before .before .before .before .before .before .before .before .before .before .before .before .before .before .loop .inv .3) l)
 
--- src/data.rt:58:1
+-- src/data.rt:55:1
 same-length : tie.Need-same-length Inv-loop μ-loop
 same-length c = (c .before .loop .inv .0)
 
--- src/data.rt:58:1
+-- src/data.rt:55:1
 same-length-2 : tie.Need-same-length-2 Inv-loop μ-loop
 same-length-2 c = (c .before .loop .inv .1)
 
--- src/data.rt:58:1
+-- src/data.rt:55:1
 returns : tie.Need-returns Inv-loop μ-loop
 returns c = λ l. data-done _ _ _ _ _ _ _ _ _ (c .loop-test .left) (c .before .loop .inv .2) ((c .before .loop .inv .3) l)
 

@@ -7,19 +7,19 @@ use Rattle.declarations.proofs.data.datum_length.Lts as lts
 use Rattle.nodes.proofs.node.quoted_length.Reads as quoted-length-reads
 use Rattle.rules.proofs.name.units.Reads as units-reads
 
--- src/data.rt:29:9
+-- src/data.rt:28:9
 quoted-length-requires : tie.Need-quoted-length-requires
 quoted-length-requires c κs = search needs
 
--- src/data.rt:31:9
+-- src/data.rt:30:9
 units-requires : tie.Need-units-requires
 units-requires c κs = search needs
 
--- src/data.rt:25:1
+-- src/data.rt:24:1
 returns : tie.Need-returns
 returns c = rw ((c .before .if1 .taken), (c .quoted-length .ensures))
 
--- src/data.rt:25:1
+-- src/data.rt:24:1
 returns-2 : tie.Need-returns-2
 returns-2 c = simp (ne-eqb _ _ (c .before .if1 .left), (c .units .ensures))
 

@@ -14,69 +14,69 @@ use Rattle.recorder.proofs.word.behind.Reads as behind-reads
 use Rattle.recorder.proofs.word.payload_at.Reads as payload-at-reads
 use Rattle.walk.proofs.stmt.skip_expr.Reads as skip-expr-reads
 
--- src/dim.rt:54:9
+-- src/dim.rt:52:9
 returns : tie.Need-returns
 returns c = dim-zero _ _ _ _ _ _ (c .if1 .taken)
 
--- src/dim.rt:56:9
+-- src/dim.rt:54:9
 payload-at-requires : tie.Need-payload-at-requires
 payload-at-requires c κs = search needs
 
--- src/dim.rt:57:43
+-- src/dim.rt:55:44
 behind-requires : tie.Need-behind-requires
 behind-requires c κs = search needs
 
--- src/dim.rt:57:9
+-- src/dim.rt:55:9
 behind-requires-2 : tie.Need-behind-requires-2
 behind-requires-2 c κs = search needs
 
--- src/dim.rt:59:13
+-- src/dim.rt:57:13
 opt-range-at-requires : tie.Need-opt-range-at-requires
 opt-range-at-requires c κs = search needs
 
--- src/dim.rt:60:52
+-- src/dim.rt:58:57
 behind-requires-3 : tie.Need-behind-requires-3
 behind-requires-3 c κs = search needs
 
--- src/dim.rt:60:13
+-- src/dim.rt:58:13
 read-payload-requires : tie.Need-read-payload-requires
 read-payload-requires c κs = search needs
 
--- src/dim.rt:72:13
+-- src/dim.rt:70:13
 sub-compile-args : tie.Need-sub-compile-args
-sub-compile-args c = omega (arith, (c .before .before .before .before .before .before .before .before .before .before .if1 .left))
+sub-compile-args c = omega (arith, (c .before .before .before .before .before .before .before .before .before .before .before .before .before .before .before .before .before .if1 .left))
 
--- src/dim.rt:61:13
+-- src/dim.rt:59:13
 compile-args-requires : tie.Need-compile-args-requires
 compile-args-requires c κs = search needs
 
--- src/dim.rt:75:13
+-- src/dim.rt:72:9
 dim-node-requires : tie.Need-dim-node-requires
 dim-node-requires c κs = search needs
 
--- src/dim.rt:78:13
+-- src/dim.rt:75:13
 skip-expr-requires : tie.Need-skip-expr-requires
 skip-expr-requires c κs = search needs
 
--- src/dim.rt:40:1
+-- src/dim.rt:38:1
 same-length : tie.Need-same-length
 same-length c = search needs
 
--- src/dim.rt:40:1
+-- src/dim.rt:38:1
 same-length-2 : tie.Need-same-length-2
 same-length-2 c = search needs
 
--- src/dim.rt:40:1
+-- src/dim.rt:38:1
 same-length-3 : tie.Need-same-length-3
 same-length-3 c = search needs
 
--- src/dim.rt:40:1
+-- src/dim.rt:38:1
 returns-2 : tie.Need-returns-2
-returns-2 c = dim-array _ _ _ _ _ _ _ _ (c .before .before .before .before .before .before .before .before .before .before .before .before .before .before .before .before .before .before .before .before .before .before .before .opt-range-at .result) _ _ _ _ _ _ _ (plain-head _ _ _ _ _ _ (c .before .before .before .before .before .before .before .before .before .before .before .before .before .before .before .before .before .before .before .before .before .before .before .before .before .before .before .before .if1 .left) (c .before .before .before .before .before .before .before .before .before .before .before .before .before .before .before .before .before .before .before .before .before .before .before .before .before .before .before .payload-at .ensures) (c .before .before .before .before .before .before .before .before .before .before .before .before .before .before .before .before .before .before .before .before .before .before .before .before .before .before .behind .ensures) (c .before .before .before .before .before .before .before .before .before .before .before .before .before .before .before .before .before .before .before .before .before .before .before .before .before .behind2 .ensures)) (c .before .before .before .before .before .before .before .before .before .before .before .before .before .before .before .before .before .before .before .before .before .before .before .before .if2 .taken) (c .before .before .before .before .before .before .before .before .before .before .before .before .before .before .before .before .before .before .before .before .before .before .before .opt-range-at .ensures) (c .before .before .before .before .before .before .before .before .before .before .before .before .before .before .before .before .before .before .before .before .before .before .behind3 .ensures) (c .before .before .before .before .before .before .before .before .before .before .before .before .before .before .before .before .before .before .before .before .before .read-payload .ensures) (c .before .before .before .before .before .before .before .before .before .before .before .before .before .before .before .before .before .compile-args .ensures) (c .before .before .before .before .before .before .dim-node .ensures)
+returns-2 c = dim-array _ _ _ _ _ _ _ _ (c .before .before .before .before .before .before .before .before .before .before .before .before .before .before .before .before .before .before .before .before .before .before .before .before .before .before .opt-range-at .result) _ _ _ _ _ _ _ (plain-head _ _ _ _ _ _ (c .before .before .before .before .before .before .before .before .before .before .before .before .before .before .before .before .before .before .before .before .before .before .before .before .before .before .before .before .before .before .before .before .before .before .before .if1 .left) (c .before .before .before .before .before .before .before .before .before .before .before .before .before .before .before .before .before .before .before .before .before .before .before .before .before .before .before .before .before .before .before .before .before .payload-at .ensures) (c .before .before .before .before .before .before .before .before .before .before .before .before .before .before .before .before .before .before .before .before .before .before .before .before .before .before .before .before .before .before .behind .ensures) (c .before .before .before .before .before .before .before .before .before .before .before .before .before .before .before .before .before .before .before .before .before .before .before .before .before .before .before .before .before .behind2 .ensures)) (c .before .before .before .before .before .before .before .before .before .before .before .before .before .before .before .before .before .before .before .before .before .before .before .before .before .before .before .before .if2 .taken) (c .before .before .before .before .before .before .before .before .before .before .before .before .before .before .before .before .before .before .before .before .before .before .before .before .before .before .opt-range-at .ensures) (c .before .before .before .before .before .before .before .before .before .before .before .before .before .before .before .before .before .before .before .before .before .before .before .behind3 .ensures) (c .before .before .before .before .before .before .before .before .before .before .before .before .before .before .before .before .before .before .before .before .before .before .read-payload .ensures) (c .before .before .before .before .before .before .before .before .before .before .before .before .before .before .before .before .before .compile-args .ensures) (c .before .before .before .before .before .before .dim-node .ensures)
 
--- src/dim.rt:40:1
+-- src/dim.rt:38:1
 returns-3 : tie.Need-returns-3
-returns-3 c = dim-other _ _ _ _ _ _ _ _ _ _ (plain-head _ _ _ _ _ _ (c .before .before .before .before .before .if1 .left) (c .before .before .before .before .payload-at .ensures) (c .before .before .before .behind .ensures) (c .before .before .behind2 .ensures)) (c .before .if2 .left) (c .skip-expr .ensures)
+returns-3 c = dim-other _ _ _ _ _ _ _ _ _ _ (plain-head _ _ _ _ _ _ (c .before .before .before .before .before .before .before .before .before .if1 .left) (c .before .before .before .before .before .before .before .payload-at .ensures) (c .before .before .before .before .behind .ensures) (c .before .before .before .behind2 .ensures)) (c .before .before .if2 .left) (c .skip-expr .ensures)
 
 pub dim-one-spec : {M : Type 1} → statement M
 dim-one-spec =

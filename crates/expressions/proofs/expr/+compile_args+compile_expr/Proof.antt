@@ -6,7 +6,7 @@ use lib.ListN.{length}
 use Rattle.recorder.specs.Mem.{mem, memR}
 use Rattle.sheet.specs.declared.form.Sort.the-variants.{Expr as exprSort}
 use Rattle.sheet.specs.Skip.{skipNode, skipRepeat}
-use Rattle.sheet.specs.Tree.{exprAt, exprsAt}
+use Rattle.sheet.specs.Tree.{exprAt, exprsAt, argsAt}
 use Rattle.rules.specs.Tables.{wantedBy}
 use Rattle.rules.specs.Expr.{compileArgs}
 use Rattle.nodes.proofs.Laws.{put-at}
@@ -20,18 +20,18 @@ use Rattle.expressions.proofs.expr.+compile_args+compile_expr.Lts-compi
 use Rattle.expressions.proofs.expr.compile_expr.Reads as compile-expr
 use Rattle.expressions.proofs.expr.compile_expr.Kinds as compile-expr-kinds
 use Rattle.expressions.proofs.expr.+compile_args+compile_expr.Lts-compile_expr as compile-expr-lts
-use Rattle.expressions.proofs.expr.read_payload.Reads as read-payload-reads
-use Rattle.expressions.proofs.expr.node_range.Reads as node-range-reads
 use Rattle.expressions.proofs.expr.mantissa_at.Reads as mantissa-at-reads
+use Rattle.expressions.proofs.expr.node_range.Reads as node-range-reads
 use Rattle.expressions.proofs.expr.op_at.Reads as op-at-reads
+use Rattle.expressions.proofs.expr.read_payload.Reads as read-payload-reads
 use Rattle.nodes.proofs.node.binary_node.Reads as binary-node-reads
 use Rattle.nodes.proofs.node.check_type.Reads as check-type-reads
-use Rattle.nodes.proofs.node.opt_real_sym.Reads as opt-real-sym-reads
 use Rattle.nodes.proofs.node.func_node.Reads as func-node-reads
 use Rattle.nodes.proofs.node.func_notes.Reads as func-notes-reads
 use Rattle.nodes.proofs.node.index_node.Reads as index-node-reads
 use Rattle.nodes.proofs.node.number_node.Reads as number-node-reads
 use Rattle.nodes.proofs.node.opt_range_at.Reads as opt-range-at-reads
+use Rattle.nodes.proofs.node.opt_real_sym.Reads as opt-real-sym-reads
 use Rattle.nodes.proofs.node.text_node.Reads as text-node-reads
 use Rattle.nodes.proofs.node.unary_node.Reads as unary-node-reads
 use Rattle.nodes.proofs.node.user_call.Reads as user-call-reads
@@ -43,45 +43,45 @@ use Rattle.rules.proofs.tables.want.Reads as want-reads
 use Rattle.expressions.proofs.expr.+compile_args+compile_expr.{statement}
 use Rattle.expressions.proofs.expr.+compile_args+compile_expr.Tie.{close}
 
-abbrev μ-compile-args : Measures 5 compile-args-kinds.ps ℕ
+abbrev μ-compile-args : Measures 8 compile-args-kinds.ps ℕ
 μ-compile-args κs a = 2 * (a .1 .1 .1 .1 .1 .1 .1 .1 .1 .1 .0) + 1
 
-abbrev μ-compile-expr : Measures 5 compile-expr-kinds.ps ℕ
+abbrev μ-compile-expr : Measures 8 compile-expr-kinds.ps ℕ
 μ-compile-expr κs a = 2 * (a .1 .1 .1 .1 .1 .1 .1 .1 .0)
 
-abbrev compile-args-at : ℕ → In 5 compile-args-kinds.ps
+abbrev compile-args-at : ℕ → In 8 compile-args-kinds.ps
 compile-args-at t =
-    and 5 compile-args-kinds.ps (is 5 compile-args-kinds.ps μ-compile-args t) compile-args.Pre
+    and 8 compile-args-kinds.ps (is 8 compile-args-kinds.ps μ-compile-args t) compile-args.Pre
 
-abbrev compile-args-below : ℕ → In 5 compile-args-kinds.ps
+abbrev compile-args-below : ℕ → In 8 compile-args-kinds.ps
 compile-args-below t =
     and
-    5
+    8
     compile-args-kinds.ps
-    (falls 5 compile-args-kinds.ps _<_ μ-compile-args t)
+    (falls 8 compile-args-kinds.ps _<_ μ-compile-args t)
     compile-args.Pre
 
-abbrev compile-expr-at : ℕ → In 5 compile-expr-kinds.ps
+abbrev compile-expr-at : ℕ → In 8 compile-expr-kinds.ps
 compile-expr-at t =
-    and 5 compile-expr-kinds.ps (is 5 compile-expr-kinds.ps μ-compile-expr t) compile-expr.Pre
+    and 8 compile-expr-kinds.ps (is 8 compile-expr-kinds.ps μ-compile-expr t) compile-expr.Pre
 
-abbrev compile-expr-below : ℕ → In 5 compile-expr-kinds.ps
+abbrev compile-expr-below : ℕ → In 8 compile-expr-kinds.ps
 compile-expr-below t =
     and
-    5
+    8
     compile-expr-kinds.ps
-    (falls 5 compile-expr-kinds.ps _<_ μ-compile-expr t)
+    (falls 8 compile-expr-kinds.ps _<_ μ-compile-expr t)
     compile-expr.Pre
 
 abbrev compile-args-Inv-loop : compile-args-lts.InvT-loop
-compile-args-Inv-loop sheet text list₀ notes₀ book₀ base at n wants left s₀ p₀ i₀ more₀ list notes book s p i more = (i + more ≤ n) × (length list ≡ length list₀) × (length notes ≡ length notes₀) × (length book ≡ length book₀)
-    × (skipRepeat sheet (skipNode sheet left exprSort) more p ≡ skipRepeat sheet (skipNode sheet left exprSort) n at)
-    × (compileArgs (memR text) text base (wantedBy wants) i (exprsAt sheet (exprAt sheet left) (skipNode sheet left exprSort) more p) (mem list notes book s) ≡ compileArgs (memR text) text base (wantedBy wants) 0 (exprsAt sheet (exprAt sheet left) (skipNode sheet left exprSort) n at) (mem list₀ notes₀ book₀ s₀))
+compile-args-Inv-loop sheet text list₀ notes₀ book₀ st₀ base at n wants left p₀ i₀ more₀ list notes book st p i more = (i + more ≤ n) × (length list ≡ length list₀) × (length notes ≡ length notes₀) × (length book ≡ length book₀)
+    × (skipRepeat (sheet .now) (skipNode (sheet .now) left exprSort) more p ≡ skipRepeat (sheet .now) (skipNode (sheet .now) left exprSort) n at)
+    × (compileArgs (memR (text .now)) (text .now) base (wantedBy wants) i (argsAt (sheet .now) left more p) (mem list notes book st) ≡ compileArgs (memR (text .now)) (text .now) base (wantedBy wants) 0 (argsAt (sheet .now) left n at) (mem list₀ notes₀ book₀ st₀))
 
 abbrev compile-args-μ-loop : compile-args-lts.MeasureT-loop
-compile-args-μ-loop sheet text list₀ notes₀ book₀ base at n wants left s₀ p₀ i₀ more₀ list notes book s p i more = more
+compile-args-μ-loop sheet text list₀ notes₀ book₀ st₀ base at n wants left p₀ i₀ more₀ list notes book st p i more = more
 
--- src/expr.rt:265:5
+-- src/expr.rt:219:5
 compile-args-loop-holds : (t : ℕ) → compile-args-lts.Need-loop-holds (
   compile-expr-below t,
   compile-expr.Post,
@@ -94,7 +94,7 @@ compile-args-loop-holds : (t : ℕ) → compile-args-lts.Need-loop-holds (
 ) (compile-args-at t) compile-args.Post compile-args-Inv-loop compile-args-μ-loop
 compile-args-loop-holds t c = (omega arith, refl, refl, refl, refl, refl)
 
--- src/expr.rt:266:13
+-- src/expr.rt:220:13
 compile-args-compile-expr-requires : (t : ℕ) → compile-args-lts.Need-compile-expr-requires (
   compile-expr-below t,
   compile-expr.Post,
@@ -107,7 +107,7 @@ compile-args-compile-expr-requires : (t : ℕ) → compile-args-lts.Need-compile
 ) (compile-args-at t) compile-args.Post compile-args-Inv-loop compile-args-μ-loop
 compile-args-compile-expr-requires t c κs = omega arith
 
--- src/expr.rt:269:13
+-- src/expr.rt:222:13
 compile-args-want-requires : (t : ℕ) → compile-args-lts.Need-want-requires (
   compile-expr-below t,
   compile-expr.Post,
@@ -120,7 +120,7 @@ compile-args-want-requires : (t : ℕ) → compile-args-lts.Need-want-requires (
 ) (compile-args-at t) compile-args.Post compile-args-Inv-loop compile-args-μ-loop
 compile-args-want-requires t c κs = search needs
 
--- src/expr.rt:270:51
+-- src/expr.rt:223:47
 compile-args-node-range-requires : (t : ℕ) → compile-args-lts.Need-node-range-requires (
   compile-expr-below t,
   compile-expr.Post,
@@ -133,7 +133,7 @@ compile-args-node-range-requires : (t : ℕ) → compile-args-lts.Need-node-rang
 ) (compile-args-at t) compile-args.Post compile-args-Inv-loop compile-args-μ-loop
 compile-args-node-range-requires t c κs = search needs
 
--- src/expr.rt:270:9
+-- src/expr.rt:223:9
 compile-args-check-type-requires : (t : ℕ) → compile-args-lts.Need-check-type-requires (
   compile-expr-below t,
   compile-expr.Post,
@@ -146,7 +146,7 @@ compile-args-check-type-requires : (t : ℕ) → compile-args-lts.Need-check-typ
 ) (compile-args-at t) compile-args.Post compile-args-Inv-loop compile-args-μ-loop
 compile-args-check-type-requires t c κs = search needs
 
--- src/expr.rt:272:9
+-- src/expr.rt:225:9
 compile-args-add-i : (t : ℕ) → compile-args-lts.Need-add-i (
   compile-expr-below t,
   compile-expr.Post,
@@ -157,9 +157,9 @@ compile-args-add-i : (t : ℕ) → compile-args-lts.Need-add-i (
   check-type-reads.Asked,
   check-type-reads.Learnt,
 ) (compile-args-at t) compile-args.Post compile-args-Inv-loop compile-args-μ-loop
-compile-args-add-i t c = omega (arith, (c .before .before .before .before .before .before .before .before .before .before .before .before .before .before .before .before .before .before .loop .inv .0), (c .before .before .before .before .before .before .before .before .before .before .before .before .before .before .before .before .before .loop-test .taken), (c .before .before .before .before .before .before .before .before .before .before .before .before .before .before .before .before .before .before .before .before .before .before .before .before .fits .n))
+compile-args-add-i t c = omega (arith, (c .before .before .before .before .before .before .before .before .before .before .before .before .before .before .before .before .before .before .before .before .loop .inv .0), (c .before .before .before .before .before .before .before .before .before .before .before .before .before .before .before .before .before .before .before .loop-test .taken), (c .before .before .before .before .before .before .before .before .before .before .before .before .before .before .before .before .before .before .before .before .before .before .before .before .fits .n))
 
--- src/expr.rt:273:9
+-- src/expr.rt:226:9
 compile-args-sub-more : (t : ℕ) → compile-args-lts.Need-sub-more (
   compile-expr-below t,
   compile-expr.Post,
@@ -172,7 +172,7 @@ compile-args-sub-more : (t : ℕ) → compile-args-lts.Need-sub-more (
 ) (compile-args-at t) compile-args.Post compile-args-Inv-loop compile-args-μ-loop
 compile-args-sub-more t c = omega arith
 
--- src/expr.rt:265:5
+-- src/expr.rt:219:5
 compile-args-loop-less : (t : ℕ) → compile-args-lts.Need-loop-less (
   compile-expr-below t,
   compile-expr.Post,
@@ -185,7 +185,7 @@ compile-args-loop-less : (t : ℕ) → compile-args-lts.Need-loop-less (
 ) (compile-args-at t) compile-args.Post compile-args-Inv-loop compile-args-μ-loop
 compile-args-loop-less t c = omega arith
 
--- src/expr.rt:265:5
+-- src/expr.rt:219:5
 compile-args-loop-again : (t : ℕ) → compile-args-lts.Need-loop-again (
   compile-expr-below t,
   compile-expr.Post,
@@ -196,9 +196,9 @@ compile-args-loop-again : (t : ℕ) → compile-args-lts.Need-loop-again (
   check-type-reads.Asked,
   check-type-reads.Learnt,
 ) (compile-args-at t) compile-args.Post compile-args-Inv-loop compile-args-μ-loop
-compile-args-loop-again t c = (omega (arith, (c .before .before .before .before .before .before .before .before .before .before .before .before .before .before .before .before .before .before .loop .inv .0), (c .before .before .before .before .before .before .before .before .before .before .before .before .before .before .before .before .before .loop-test .taken)), (c .before .before .before .before .before .before .before .before .before .before .before .before .before .compile-expr .kept .1 .1 .0) ∙ (c .before .before .before .before .before .before .before .before .before .before .before .before .before .before .before .before .before .before .loop .inv .1), (c .before .before .check-type .kept .0) ∙ (c .before .before .before .before .before .before .before .before .before .before .before .before .before .compile-expr .kept .1 .1 .1 .0) ∙ (c .before .before .before .before .before .before .before .before .before .before .before .before .before .before .before .before .before .before .loop .inv .2), (c .before .before .before .before .before .before .before .before .before .before .before .before .before .compile-expr .kept .1 .1 .1 .1 .0) ∙ (c .before .before .before .before .before .before .before .before .before .before .before .before .before .before .before .before .before .before .loop .inv .3), step-place _ _ _ _ _ _ _ _ _ _ (c .before .before .before .before .before .before .before .before .before .before .before .before .before .before .before .before .before .loop-test .taken) (c .before .before .before .before .before .before .before .before .before .before .before .before .before .compile-expr .ensures) ∙ (c .before .before .before .before .before .before .before .before .before .before .before .before .before .before .before .before .before .before .loop .inv .4), step-args _ _ _ _ _ _ _ (c .before .before .before .before .before .before .before .before .before .before .before .before .before .before .before .before .before .before .loop .i) _ (c .before .before .before .before .before .before .before .before .before .before .before .before .before .before .before .before .before .before .before .before .before .before .before .before .args .wants) _ _ _ _ _ (c .before .before .before .before .before .before .before .before .before .before .before .before .before .before .before .before .before .loop-test .taken) (c .before .before .before .before .before .before .before .before .before .before .before .before .before .compile-expr .ensures) (c .before .before .before .before .before .want .ensures) (c .before .before .before .node-range .ensures) ((c .before .before .check-type .ensures) _ _ _ _) ∙ (c .before .before .before .before .before .before .before .before .before .before .before .before .before .before .before .before .before .before .loop .inv .5))
+compile-args-loop-again t c = (omega (arith, (c .before .before .before .before .before .before .before .before .before .before .before .before .before .before .before .before .before .before .before .before .loop .inv .0), (c .before .before .before .before .before .before .before .before .before .before .before .before .before .before .before .before .before .before .before .loop-test .taken)), (c .before .before .before .before .before .before .before .before .before .before .before .before .before .before .compile-expr .kept .1 .1 .0) ∙ (c .before .before .before .before .before .before .before .before .before .before .before .before .before .before .before .before .before .before .before .before .loop .inv .1), (c .before .before .check-type .kept .0) ∙ (c .before .before .before .before .before .before .before .before .before .before .before .before .before .before .compile-expr .kept .1 .1 .1 .0) ∙ (c .before .before .before .before .before .before .before .before .before .before .before .before .before .before .before .before .before .before .before .before .loop .inv .2), (c .before .before .before .before .before .before .before .before .before .before .before .before .before .before .compile-expr .kept .1 .1 .1 .1 .0) ∙ (c .before .before .before .before .before .before .before .before .before .before .before .before .before .before .before .before .before .before .before .before .loop .inv .3), step-place _ _ _ _ _ _ _ _ _ _ (c .before .before .before .before .before .before .before .before .before .before .before .before .before .before .before .before .before .before .before .loop-test .taken) (c .before .before .before .before .before .before .before .before .before .before .before .before .before .before .compile-expr .ensures) ∙ (c .before .before .before .before .before .before .before .before .before .before .before .before .before .before .before .before .before .before .before .before .loop .inv .4), step-args _ _ _ _ _ _ _ (c .before .before .before .before .before .before .before .before .before .before .before .before .before .before .before .before .before .before .before .before .loop .i) _ (c .before .before .before .before .before .before .before .before .before .before .before .before .before .before .before .before .before .before .before .before .before .before .before .before .args .wants) _ _ _ _ _ (c .before .before .before .before .before .before .before .before .before .before .before .before .before .before .before .before .before .before .before .loop-test .taken) (c .before .before .before .before .before .before .before .before .before .before .before .before .before .before .compile-expr .ensures) (c .before .before .before .before .before .before .before .want .ensures) (c .before .before .before .node-range .ensures) ((c .before .before .check-type .ensures) _ _ _ _) ∙ (c .before .before .before .before .before .before .before .before .before .before .before .before .before .before .before .before .before .before .before .before .loop .inv .5))
 
--- src/expr.rt:246:1
+-- src/expr.rt:201:1
 compile-args-same-length : (t : ℕ) → compile-args-lts.Need-same-length (
   compile-expr-below t,
   compile-expr.Post,
@@ -211,7 +211,7 @@ compile-args-same-length : (t : ℕ) → compile-args-lts.Need-same-length (
 ) (compile-args-at t) compile-args.Post compile-args-Inv-loop compile-args-μ-loop
 compile-args-same-length t c = (c .before .loop .inv .1)
 
--- src/expr.rt:246:1
+-- src/expr.rt:201:1
 compile-args-same-length-2 : (t : ℕ) → compile-args-lts.Need-same-length-2 (
   compile-expr-below t,
   compile-expr.Post,
@@ -224,7 +224,7 @@ compile-args-same-length-2 : (t : ℕ) → compile-args-lts.Need-same-length-2 (
 ) (compile-args-at t) compile-args.Post compile-args-Inv-loop compile-args-μ-loop
 compile-args-same-length-2 t c = (c .before .loop .inv .2)
 
--- src/expr.rt:246:1
+-- src/expr.rt:201:1
 compile-args-same-length-3 : (t : ℕ) → compile-args-lts.Need-same-length-3 (
   compile-expr-below t,
   compile-expr.Post,
@@ -237,7 +237,7 @@ compile-args-same-length-3 : (t : ℕ) → compile-args-lts.Need-same-length-3 (
 ) (compile-args-at t) compile-args.Post compile-args-Inv-loop compile-args-μ-loop
 compile-args-same-length-3 t c = (c .before .loop .inv .3)
 
--- src/expr.rt:246:1
+-- src/expr.rt:201:1
 compile-args-returns : (t : ℕ) → compile-args-lts.Need-returns (
   compile-expr-below t,
   compile-expr.Post,
@@ -250,7 +250,7 @@ compile-args-returns : (t : ℕ) → compile-args-lts.Need-returns (
 ) (compile-args-at t) compile-args.Post compile-args-Inv-loop compile-args-μ-loop
 compile-args-returns t c = none-left _ _ _ _ _ _ _ _ _ _ _ _ (c .loop-test .left) (c .before .loop .inv .4) (c .before .loop .inv .5)
 
--- src/expr.rt:89:9
+-- src/expr.rt:83:9
 compile-expr-returns : (t : ℕ) → compile-expr-lts.Need-returns (
   payload-at-reads.Asked,
   payload-at-reads.Learnt,
@@ -297,7 +297,7 @@ compile-expr-returns : (t : ℕ) → compile-expr-lts.Need-returns (
 ) (compile-expr-at t) compile-expr.Post
 compile-expr-returns t c = at-zero _ _ _ _ _ _ (c .if1 .taken)
 
--- src/expr.rt:95:9
+-- src/expr.rt:88:9
 compile-expr-payload-at-requires : (t : ℕ) → compile-expr-lts.Need-payload-at-requires (
   payload-at-reads.Asked,
   payload-at-reads.Learnt,
@@ -344,7 +344,7 @@ compile-expr-payload-at-requires : (t : ℕ) → compile-expr-lts.Need-payload-a
 ) (compile-expr-at t) compile-expr.Post
 compile-expr-payload-at-requires t c κs = search needs
 
--- src/expr.rt:96:9
+-- src/expr.rt:89:9
 compile-expr-node-range-requires : (t : ℕ) → compile-expr-lts.Need-node-range-requires (
   payload-at-reads.Asked,
   payload-at-reads.Learnt,
@@ -391,7 +391,7 @@ compile-expr-node-range-requires : (t : ℕ) → compile-expr-lts.Need-node-rang
 ) (compile-expr-at t) compile-expr.Post
 compile-expr-node-range-requires t c κs = search needs
 
--- src/expr.rt:97:43
+-- src/expr.rt:90:44
 compile-expr-behind-requires : (t : ℕ) → compile-expr-lts.Need-behind-requires (
   payload-at-reads.Asked,
   payload-at-reads.Learnt,
@@ -438,7 +438,7 @@ compile-expr-behind-requires : (t : ℕ) → compile-expr-lts.Need-behind-requir
 ) (compile-expr-at t) compile-expr.Post
 compile-expr-behind-requires t c κs = search needs
 
--- src/expr.rt:97:9
+-- src/expr.rt:90:9
 compile-expr-behind-requires-2 : (t : ℕ) → compile-expr-lts.Need-behind-requires-2 (
   payload-at-reads.Asked,
   payload-at-reads.Learnt,
@@ -485,7 +485,7 @@ compile-expr-behind-requires-2 : (t : ℕ) → compile-expr-lts.Need-behind-requ
 ) (compile-expr-at t) compile-expr.Post
 compile-expr-behind-requires-2 t c κs = search needs
 
--- src/expr.rt:100:17
+-- src/expr.rt:93:17
 compile-expr-var-node-requires : (t : ℕ) → compile-expr-lts.Need-var-node-requires (
   payload-at-reads.Asked,
   payload-at-reads.Learnt,
@@ -532,7 +532,7 @@ compile-expr-var-node-requires : (t : ℕ) → compile-expr-lts.Need-var-node-re
 ) (compile-expr-at t) compile-expr.Post
 compile-expr-var-node-requires t c κs = search needs
 
--- src/expr.rt:106:17
+-- src/expr.rt:97:13
 compile-expr-text-node-requires : (t : ℕ) → compile-expr-lts.Need-text-node-requires (
   payload-at-reads.Asked,
   payload-at-reads.Learnt,
@@ -579,7 +579,7 @@ compile-expr-text-node-requires : (t : ℕ) → compile-expr-lts.Need-text-node-
 ) (compile-expr-at t) compile-expr.Post
 compile-expr-text-node-requires t c κs = search needs
 
--- src/expr.rt:114:17
+-- src/expr.rt:104:17
 compile-expr-read-payload-requires : (t : ℕ) → compile-expr-lts.Need-read-payload-requires (
   payload-at-reads.Asked,
   payload-at-reads.Learnt,
@@ -626,7 +626,7 @@ compile-expr-read-payload-requires : (t : ℕ) → compile-expr-lts.Need-read-pa
 ) (compile-expr-at t) compile-expr.Post
 compile-expr-read-payload-requires t c κs = search needs
 
--- src/expr.rt:115:17
+-- src/expr.rt:105:17
 compile-expr-mantissa-at-requires : (t : ℕ) → compile-expr-lts.Need-mantissa-at-requires (
   payload-at-reads.Asked,
   payload-at-reads.Learnt,
@@ -673,7 +673,7 @@ compile-expr-mantissa-at-requires : (t : ℕ) → compile-expr-lts.Need-mantissa
 ) (compile-expr-at t) compile-expr.Post
 compile-expr-mantissa-at-requires t c κs = search needs
 
--- src/expr.rt:116:51
+-- src/expr.rt:106:52
 compile-expr-behind-requires-3 : (t : ℕ) → compile-expr-lts.Need-behind-requires-3 (
   payload-at-reads.Asked,
   payload-at-reads.Learnt,
@@ -720,7 +720,7 @@ compile-expr-behind-requires-3 : (t : ℕ) → compile-expr-lts.Need-behind-requ
 ) (compile-expr-at t) compile-expr.Post
 compile-expr-behind-requires-3 t c κs = search needs
 
--- src/expr.rt:116:17
+-- src/expr.rt:106:17
 compile-expr-behind-requires-4 : (t : ℕ) → compile-expr-lts.Need-behind-requires-4 (
   payload-at-reads.Asked,
   payload-at-reads.Learnt,
@@ -767,7 +767,7 @@ compile-expr-behind-requires-4 : (t : ℕ) → compile-expr-lts.Need-behind-requ
 ) (compile-expr-at t) compile-expr.Post
 compile-expr-behind-requires-4 t c κs = search needs
 
--- src/expr.rt:117:17
+-- src/expr.rt:107:13
 compile-expr-number-node-requires : (t : ℕ) → compile-expr-lts.Need-number-node-requires (
   payload-at-reads.Asked,
   payload-at-reads.Learnt,
@@ -814,7 +814,7 @@ compile-expr-number-node-requires : (t : ℕ) → compile-expr-lts.Need-number-n
 ) (compile-expr-at t) compile-expr.Post
 compile-expr-number-node-requires t c κs = search needs
 
--- src/expr.rt:125:17
+-- src/expr.rt:114:17
 compile-expr-op-at-requires : (t : ℕ) → compile-expr-lts.Need-op-at-requires (
   payload-at-reads.Asked,
   payload-at-reads.Learnt,
@@ -861,7 +861,7 @@ compile-expr-op-at-requires : (t : ℕ) → compile-expr-lts.Need-op-at-requires
 ) (compile-expr-at t) compile-expr.Post
 compile-expr-op-at-requires t c κs = search needs
 
--- src/expr.rt:127:17
+-- src/expr.rt:116:17
 compile-expr-read-payload-requires-2 : (t : ℕ) → compile-expr-lts.Need-read-payload-requires-2 (
   payload-at-reads.Asked,
   payload-at-reads.Learnt,
@@ -908,7 +908,7 @@ compile-expr-read-payload-requires-2 : (t : ℕ) → compile-expr-lts.Need-read-
 ) (compile-expr-at t) compile-expr.Post
 compile-expr-read-payload-requires-2 t c κs = search needs
 
--- src/expr.rt:128:17
+-- src/expr.rt:117:13
 compile-expr-func-notes-requires : (t : ℕ) → compile-expr-lts.Need-func-notes-requires (
   payload-at-reads.Asked,
   payload-at-reads.Learnt,
@@ -955,7 +955,7 @@ compile-expr-func-notes-requires : (t : ℕ) → compile-expr-lts.Need-func-note
 ) (compile-expr-at t) compile-expr.Post
 compile-expr-func-notes-requires t c κs = search needs
 
--- src/expr.rt:140:17
+-- src/expr.rt:129:17
 compile-expr-sub-compile-args : (t : ℕ) → compile-expr-lts.Need-sub-compile-args (
   payload-at-reads.Asked,
   payload-at-reads.Learnt,
@@ -1000,9 +1000,9 @@ compile-expr-sub-compile-args : (t : ℕ) → compile-expr-lts.Need-sub-compile-
   emit-inkey-reads.Asked,
   emit-inkey-reads.Learnt,
 ) (compile-expr-at t) compile-expr.Post
-compile-expr-sub-compile-args t c = omega (arith, (c .before .before .before .before .before .before .before .before .before .before .before .before .before .before .before .if1 .left))
+compile-expr-sub-compile-args t c = omega (arith, (c .before .before .before .before .before .before .before .before .before .before .before .before .before .before .before .before .before .before .before .before .before .before .before .if1 .left))
 
--- src/expr.rt:129:17
+-- src/expr.rt:118:17
 compile-expr-compile-args-requires : (t : ℕ) → compile-expr-lts.Need-compile-args-requires (
   payload-at-reads.Asked,
   payload-at-reads.Learnt,
@@ -1047,9 +1047,9 @@ compile-expr-compile-args-requires : (t : ℕ) → compile-expr-lts.Need-compile
   emit-inkey-reads.Asked,
   emit-inkey-reads.Learnt,
 ) (compile-expr-at t) compile-expr.Post
-compile-expr-compile-args-requires t c κs = omega (arith, (c .before .before .before .before .before .before .before .before .before .before .before .before .before .before .before .before .before .before .before .before .before .pre .0), (c .before .before .before .before .before .before .before .before .before .before .before .before .before .before .before .if1 .left))
+compile-expr-compile-args-requires t c κs = omega (arith, (c .before .before .before .before .before .before .before .before .before .before .before .before .before .before .before .before .before .before .before .before .before .before .before .before .before .before .before .pre .0), (c .before .before .before .before .before .before .before .before .before .before .before .before .before .before .before .before .before .before .before .before .before .before .before .if1 .left))
 
--- src/expr.rt:143:17
+-- src/expr.rt:131:17
 compile-expr-func-node-requires : (t : ℕ) → compile-expr-lts.Need-func-node-requires (
   payload-at-reads.Asked,
   payload-at-reads.Learnt,
@@ -1096,7 +1096,7 @@ compile-expr-func-node-requires : (t : ℕ) → compile-expr-lts.Need-func-node-
 ) (compile-expr-at t) compile-expr.Post
 compile-expr-func-node-requires t c κs = search needs
 
--- src/expr.rt:153:17
+-- src/expr.rt:135:17
 compile-expr-opt-range-at-requires : (t : ℕ) → compile-expr-lts.Need-opt-range-at-requires (
   payload-at-reads.Asked,
   payload-at-reads.Learnt,
@@ -1143,7 +1143,7 @@ compile-expr-opt-range-at-requires : (t : ℕ) → compile-expr-lts.Need-opt-ran
 ) (compile-expr-at t) compile-expr.Post
 compile-expr-opt-range-at-requires t c κs = search needs
 
--- src/expr.rt:154:17
+-- src/expr.rt:136:17
 compile-expr-behind-requires-5 : (t : ℕ) → compile-expr-lts.Need-behind-requires-5 (
   payload-at-reads.Asked,
   payload-at-reads.Learnt,
@@ -1190,7 +1190,7 @@ compile-expr-behind-requires-5 : (t : ℕ) → compile-expr-lts.Need-behind-requ
 ) (compile-expr-at t) compile-expr.Post
 compile-expr-behind-requires-5 t c κs = search needs
 
--- src/expr.rt:155:17
+-- src/expr.rt:137:17
 compile-expr-opt-real-sym-requires : (t : ℕ) → compile-expr-lts.Need-opt-real-sym-requires (
   payload-at-reads.Asked,
   payload-at-reads.Learnt,
@@ -1237,7 +1237,7 @@ compile-expr-opt-real-sym-requires : (t : ℕ) → compile-expr-lts.Need-opt-rea
 ) (compile-expr-at t) compile-expr.Post
 compile-expr-opt-real-sym-requires t c κs = search needs
 
--- src/expr.rt:157:79
+-- src/expr.rt:138:79
 compile-expr-sub-compile-expr : (t : ℕ) → compile-expr-lts.Need-sub-compile-expr (
   payload-at-reads.Asked,
   payload-at-reads.Learnt,
@@ -1282,9 +1282,9 @@ compile-expr-sub-compile-expr : (t : ℕ) → compile-expr-lts.Need-sub-compile-
   emit-inkey-reads.Asked,
   emit-inkey-reads.Learnt,
 ) (compile-expr-at t) compile-expr.Post
-compile-expr-sub-compile-expr t c = omega (arith, (c .before .before .before .before .before .before .before .before .before .before .before .before .before .before .before .before .before .before .if1 .left))
+compile-expr-sub-compile-expr t c = omega (arith, (c .before .before .before .before .before .before .before .before .before .before .before .before .before .before .before .before .before .before .before .before .before .before .before .before .before .before .if1 .left))
 
--- src/expr.rt:157:17
+-- src/expr.rt:138:17
 compile-expr-compile-expr-requires : (t : ℕ) → compile-expr-lts.Need-compile-expr-requires (
   payload-at-reads.Asked,
   payload-at-reads.Learnt,
@@ -1329,9 +1329,9 @@ compile-expr-compile-expr-requires : (t : ℕ) → compile-expr-lts.Need-compile
   emit-inkey-reads.Asked,
   emit-inkey-reads.Learnt,
 ) (compile-expr-at t) compile-expr.Post
-compile-expr-compile-expr-requires t c κs = omega (arith, (c .before .before .before .before .before .before .before .before .before .before .before .before .before .before .before .before .before .before .before .before .before .before .before .before .pre .0), (c .before .before .before .before .before .before .before .before .before .before .before .before .before .before .before .before .before .before .if1 .left))
+compile-expr-compile-expr-requires t c κs = omega (arith, (c .before .before .before .before .before .before .before .before .before .before .before .before .before .before .before .before .before .before .before .before .before .before .before .before .before .before .before .before .before .before .pre .0), (c .before .before .before .before .before .before .before .before .before .before .before .before .before .before .before .before .before .before .before .before .before .before .before .before .before .before .if1 .left))
 
--- src/expr.rt:160:69
+-- src/expr.rt:140:60
 compile-expr-node-range-requires-2 : (t : ℕ) → compile-expr-lts.Need-node-range-requires-2 (
   payload-at-reads.Asked,
   payload-at-reads.Learnt,
@@ -1378,7 +1378,7 @@ compile-expr-node-range-requires-2 : (t : ℕ) → compile-expr-lts.Need-node-ra
 ) (compile-expr-at t) compile-expr.Post
 compile-expr-node-range-requires-2 t c κs = search needs
 
--- src/expr.rt:160:17
+-- src/expr.rt:140:13
 compile-expr-check-type-requires : (t : ℕ) → compile-expr-lts.Need-check-type-requires (
   payload-at-reads.Asked,
   payload-at-reads.Learnt,
@@ -1425,7 +1425,7 @@ compile-expr-check-type-requires : (t : ℕ) → compile-expr-lts.Need-check-typ
 ) (compile-expr-at t) compile-expr.Post
 compile-expr-check-type-requires t c κs = search needs
 
--- src/expr.rt:161:17
+-- src/expr.rt:141:13
 compile-expr-user-call-requires : (t : ℕ) → compile-expr-lts.Need-user-call-requires (
   payload-at-reads.Asked,
   payload-at-reads.Learnt,
@@ -1472,7 +1472,7 @@ compile-expr-user-call-requires : (t : ℕ) → compile-expr-lts.Need-user-call-
 ) (compile-expr-at t) compile-expr.Post
 compile-expr-user-call-requires t c κs = search needs
 
--- src/expr.rt:169:79
+-- src/expr.rt:148:79
 compile-expr-sub-compile-expr-2 : (t : ℕ) → compile-expr-lts.Need-sub-compile-expr-2 (
   payload-at-reads.Asked,
   payload-at-reads.Learnt,
@@ -1517,9 +1517,9 @@ compile-expr-sub-compile-expr-2 : (t : ℕ) → compile-expr-lts.Need-sub-compil
   emit-inkey-reads.Asked,
   emit-inkey-reads.Learnt,
 ) (compile-expr-at t) compile-expr.Post
-compile-expr-sub-compile-expr-2 t c = omega (arith, (c .before .before .before .before .before .before .before .before .if1 .left))
+compile-expr-sub-compile-expr-2 t c = omega (arith, (c .before .before .before .before .before .before .before .before .before .before .before .before .before .if1 .left))
 
--- src/expr.rt:169:17
+-- src/expr.rt:148:17
 compile-expr-compile-expr-requires-2 : (t : ℕ) → compile-expr-lts.Need-compile-expr-requires-2 (
   payload-at-reads.Asked,
   payload-at-reads.Learnt,
@@ -1564,9 +1564,9 @@ compile-expr-compile-expr-requires-2 : (t : ℕ) → compile-expr-lts.Need-compi
   emit-inkey-reads.Asked,
   emit-inkey-reads.Learnt,
 ) (compile-expr-at t) compile-expr.Post
-compile-expr-compile-expr-requires-2 t c κs = omega (arith, (c .before .before .before .before .before .before .before .before .before .before .before .before .before .before .pre .0), (c .before .before .before .before .before .before .before .before .if1 .left))
+compile-expr-compile-expr-requires-2 t c κs = omega (arith, (c .before .before .before .before .before .before .before .before .before .before .before .before .before .before .before .before .before .pre .0), (c .before .before .before .before .before .before .before .before .before .before .before .before .before .if1 .left))
 
--- src/expr.rt:172:17
+-- src/expr.rt:150:17
 compile-expr-op-at-requires-2 : (t : ℕ) → compile-expr-lts.Need-op-at-requires-2 (
   payload-at-reads.Asked,
   payload-at-reads.Learnt,
@@ -1613,7 +1613,7 @@ compile-expr-op-at-requires-2 : (t : ℕ) → compile-expr-lts.Need-op-at-requir
 ) (compile-expr-at t) compile-expr.Post
 compile-expr-op-at-requires-2 t c κs = search needs
 
--- src/expr.rt:174:82
+-- src/expr.rt:152:82
 compile-expr-sub-compile-expr-3 : (t : ℕ) → compile-expr-lts.Need-sub-compile-expr-3 (
   payload-at-reads.Asked,
   payload-at-reads.Learnt,
@@ -1658,9 +1658,9 @@ compile-expr-sub-compile-expr-3 : (t : ℕ) → compile-expr-lts.Need-sub-compil
   emit-inkey-reads.Asked,
   emit-inkey-reads.Learnt,
 ) (compile-expr-at t) compile-expr.Post
-compile-expr-sub-compile-expr-3 t c = omega (arith, (c .before .before .before .before .before .before .before .before .before .before .before .before .before .before .before .before .before .before .before .before .before .if1 .left))
+compile-expr-sub-compile-expr-3 t c = omega (arith, (c .before .before .before .before .before .before .before .before .before .before .before .before .before .before .before .before .before .before .before .before .before .before .before .before .before .before .before .if1 .left))
 
--- src/expr.rt:174:17
+-- src/expr.rt:152:17
 compile-expr-compile-expr-requires-3 : (t : ℕ) → compile-expr-lts.Need-compile-expr-requires-3 (
   payload-at-reads.Asked,
   payload-at-reads.Learnt,
@@ -1705,9 +1705,9 @@ compile-expr-compile-expr-requires-3 : (t : ℕ) → compile-expr-lts.Need-compi
   emit-inkey-reads.Asked,
   emit-inkey-reads.Learnt,
 ) (compile-expr-at t) compile-expr.Post
-compile-expr-compile-expr-requires-3 t c κs = omega (arith, (c .before .before .before .before .before .before .before .before .before .before .before .before .before .before .before .before .before .before .before .before .before .before .before .before .before .before .before .pre .0), (c .before .before .before .before .before .before .before .before .before .before .before .before .before .before .before .before .before .before .before .before .before .if1 .left))
+compile-expr-compile-expr-requires-3 t c κs = omega (arith, (c .before .before .before .before .before .before .before .before .before .before .before .before .before .before .before .before .before .before .before .before .before .before .before .before .before .before .before .before .before .before .before .pre .0), (c .before .before .before .before .before .before .before .before .before .before .before .before .before .before .before .before .before .before .before .before .before .before .before .before .before .before .before .if1 .left))
 
--- src/expr.rt:177:17
+-- src/expr.rt:154:17
 compile-expr-node-range-requires-3 : (t : ℕ) → compile-expr-lts.Need-node-range-requires-3 (
   payload-at-reads.Asked,
   payload-at-reads.Learnt,
@@ -1754,7 +1754,7 @@ compile-expr-node-range-requires-3 : (t : ℕ) → compile-expr-lts.Need-node-ra
 ) (compile-expr-at t) compile-expr.Post
 compile-expr-node-range-requires-3 t c κs = search needs
 
--- src/expr.rt:178:17
+-- src/expr.rt:155:17
 compile-expr-node-range-requires-4 : (t : ℕ) → compile-expr-lts.Need-node-range-requires-4 (
   payload-at-reads.Asked,
   payload-at-reads.Learnt,
@@ -1801,7 +1801,7 @@ compile-expr-node-range-requires-4 : (t : ℕ) → compile-expr-lts.Need-node-ra
 ) (compile-expr-at t) compile-expr.Post
 compile-expr-node-range-requires-4 t c κs = search needs
 
--- src/expr.rt:179:17
+-- src/expr.rt:156:17
 compile-expr-binary-node-requires : (t : ℕ) → compile-expr-lts.Need-binary-node-requires (
   payload-at-reads.Asked,
   payload-at-reads.Learnt,
@@ -1848,7 +1848,7 @@ compile-expr-binary-node-requires : (t : ℕ) → compile-expr-lts.Need-binary-n
 ) (compile-expr-at t) compile-expr.Post
 compile-expr-binary-node-requires t c κs = search needs
 
--- src/expr.rt:189:17
+-- src/expr.rt:160:17
 compile-expr-op-at-requires-3 : (t : ℕ) → compile-expr-lts.Need-op-at-requires-3 (
   payload-at-reads.Asked,
   payload-at-reads.Learnt,
@@ -1895,7 +1895,7 @@ compile-expr-op-at-requires-3 : (t : ℕ) → compile-expr-lts.Need-op-at-requir
 ) (compile-expr-at t) compile-expr.Post
 compile-expr-op-at-requires-3 t c κs = search needs
 
--- src/expr.rt:190:82
+-- src/expr.rt:161:82
 compile-expr-sub-compile-expr-4 : (t : ℕ) → compile-expr-lts.Need-sub-compile-expr-4 (
   payload-at-reads.Asked,
   payload-at-reads.Learnt,
@@ -1940,9 +1940,9 @@ compile-expr-sub-compile-expr-4 : (t : ℕ) → compile-expr-lts.Need-sub-compil
   emit-inkey-reads.Asked,
   emit-inkey-reads.Learnt,
 ) (compile-expr-at t) compile-expr.Post
-compile-expr-sub-compile-expr-4 t c = omega (arith, (c .before .before .before .before .before .before .before .before .before .if1 .left))
+compile-expr-sub-compile-expr-4 t c = omega (arith, (c .before .before .before .before .before .before .before .before .before .before .before .before .before .before .before .if1 .left))
 
--- src/expr.rt:190:17
+-- src/expr.rt:161:17
 compile-expr-compile-expr-requires-4 : (t : ℕ) → compile-expr-lts.Need-compile-expr-requires-4 (
   payload-at-reads.Asked,
   payload-at-reads.Learnt,
@@ -1987,9 +1987,9 @@ compile-expr-compile-expr-requires-4 : (t : ℕ) → compile-expr-lts.Need-compi
   emit-inkey-reads.Asked,
   emit-inkey-reads.Learnt,
 ) (compile-expr-at t) compile-expr.Post
-compile-expr-compile-expr-requires-4 t c κs = omega (arith, (c .before .before .before .before .before .before .before .before .before .before .before .before .before .before .before .pre .0), (c .before .before .before .before .before .before .before .before .before .if1 .left))
+compile-expr-compile-expr-requires-4 t c κs = omega (arith, (c .before .before .before .before .before .before .before .before .before .before .before .before .before .before .before .before .before .before .before .pre .0), (c .before .before .before .before .before .before .before .before .before .before .before .before .before .before .before .if1 .left))
 
--- src/expr.rt:193:17
+-- src/expr.rt:163:17
 compile-expr-node-range-requires-5 : (t : ℕ) → compile-expr-lts.Need-node-range-requires-5 (
   payload-at-reads.Asked,
   payload-at-reads.Learnt,
@@ -2036,7 +2036,7 @@ compile-expr-node-range-requires-5 : (t : ℕ) → compile-expr-lts.Need-node-ra
 ) (compile-expr-at t) compile-expr.Post
 compile-expr-node-range-requires-5 t c κs = search needs
 
--- src/expr.rt:194:17
+-- src/expr.rt:164:17
 compile-expr-unary-node-requires : (t : ℕ) → compile-expr-lts.Need-unary-node-requires (
   payload-at-reads.Asked,
   payload-at-reads.Learnt,
@@ -2083,7 +2083,7 @@ compile-expr-unary-node-requires : (t : ℕ) → compile-expr-lts.Need-unary-nod
 ) (compile-expr-at t) compile-expr.Post
 compile-expr-unary-node-requires t c κs = search needs
 
--- src/expr.rt:204:17
+-- src/expr.rt:168:17
 compile-expr-opt-range-at-requires-2 : (t : ℕ) → compile-expr-lts.Need-opt-range-at-requires-2 (
   payload-at-reads.Asked,
   payload-at-reads.Learnt,
@@ -2130,7 +2130,7 @@ compile-expr-opt-range-at-requires-2 : (t : ℕ) → compile-expr-lts.Need-opt-r
 ) (compile-expr-at t) compile-expr.Post
 compile-expr-opt-range-at-requires-2 t c κs = search needs
 
--- src/expr.rt:205:37
+-- src/expr.rt:169:42
 compile-expr-behind-requires-6 : (t : ℕ) → compile-expr-lts.Need-behind-requires-6 (
   payload-at-reads.Asked,
   payload-at-reads.Learnt,
@@ -2177,7 +2177,7 @@ compile-expr-behind-requires-6 : (t : ℕ) → compile-expr-lts.Need-behind-requ
 ) (compile-expr-at t) compile-expr.Post
 compile-expr-behind-requires-6 t c κs = search needs
 
--- src/expr.rt:205:17
+-- src/expr.rt:169:17
 compile-expr-read-payload-requires-3 : (t : ℕ) → compile-expr-lts.Need-read-payload-requires-3 (
   payload-at-reads.Asked,
   payload-at-reads.Learnt,
@@ -2224,7 +2224,7 @@ compile-expr-read-payload-requires-3 : (t : ℕ) → compile-expr-lts.Need-read-
 ) (compile-expr-at t) compile-expr.Post
 compile-expr-read-payload-requires-3 t c κs = search needs
 
--- src/expr.rt:217:17
+-- src/expr.rt:181:17
 compile-expr-sub-compile-args-2 : (t : ℕ) → compile-expr-lts.Need-sub-compile-args-2 (
   payload-at-reads.Asked,
   payload-at-reads.Learnt,
@@ -2269,9 +2269,9 @@ compile-expr-sub-compile-args-2 : (t : ℕ) → compile-expr-lts.Need-sub-compil
   emit-inkey-reads.Asked,
   emit-inkey-reads.Learnt,
 ) (compile-expr-at t) compile-expr.Post
-compile-expr-sub-compile-args-2 t c = omega (arith, (c .before .before .before .before .before .before .before .before .before .before .before .if1 .left))
+compile-expr-sub-compile-args-2 t c = omega (arith, (c .before .before .before .before .before .before .before .before .before .before .before .before .before .before .before .before .before .before .before .if1 .left))
 
--- src/expr.rt:206:17
+-- src/expr.rt:170:17
 compile-expr-compile-args-requires-2 : (t : ℕ) → compile-expr-lts.Need-compile-args-requires-2 (
   payload-at-reads.Asked,
   payload-at-reads.Learnt,
@@ -2316,9 +2316,9 @@ compile-expr-compile-args-requires-2 : (t : ℕ) → compile-expr-lts.Need-compi
   emit-inkey-reads.Asked,
   emit-inkey-reads.Learnt,
 ) (compile-expr-at t) compile-expr.Post
-compile-expr-compile-args-requires-2 t c κs = omega (arith, (c .before .before .before .before .before .before .before .before .before .before .before .before .before .before .before .before .before .pre .0), (c .before .before .before .before .before .before .before .before .before .before .before .if1 .left))
+compile-expr-compile-args-requires-2 t c κs = omega (arith, (c .before .before .before .before .before .before .before .before .before .before .before .before .before .before .before .before .before .before .before .before .before .before .before .pre .0), (c .before .before .before .before .before .before .before .before .before .before .before .before .before .before .before .before .before .before .before .if1 .left))
 
--- src/expr.rt:220:17
+-- src/expr.rt:183:17
 compile-expr-index-node-requires : (t : ℕ) → compile-expr-lts.Need-index-node-requires (
   payload-at-reads.Asked,
   payload-at-reads.Learnt,
@@ -2365,7 +2365,7 @@ compile-expr-index-node-requires : (t : ℕ) → compile-expr-lts.Need-index-nod
 ) (compile-expr-at t) compile-expr.Post
 compile-expr-index-node-requires t c κs = search needs
 
--- src/expr.rt:230:17
+-- src/expr.rt:187:13
 compile-expr-emit-inkey-requires : (t : ℕ) → compile-expr-lts.Need-emit-inkey-requires (
   payload-at-reads.Asked,
   payload-at-reads.Learnt,
@@ -2412,7 +2412,7 @@ compile-expr-emit-inkey-requires : (t : ℕ) → compile-expr-lts.Need-emit-inke
 ) (compile-expr-at t) compile-expr.Post
 compile-expr-emit-inkey-requires t c κs = search needs
 
--- src/expr.rt:75:1
+-- src/expr.rt:69:1
 compile-expr-same-length : (t : ℕ) → compile-expr-lts.Need-same-length (
   payload-at-reads.Asked,
   payload-at-reads.Learnt,
@@ -2459,7 +2459,7 @@ compile-expr-same-length : (t : ℕ) → compile-expr-lts.Need-same-length (
 ) (compile-expr-at t) compile-expr.Post
 compile-expr-same-length t c = search needs
 
--- src/expr.rt:75:1
+-- src/expr.rt:69:1
 compile-expr-same-length-2 : (t : ℕ) → compile-expr-lts.Need-same-length-2 (
   payload-at-reads.Asked,
   payload-at-reads.Learnt,
@@ -2506,7 +2506,7 @@ compile-expr-same-length-2 : (t : ℕ) → compile-expr-lts.Need-same-length-2 (
 ) (compile-expr-at t) compile-expr.Post
 compile-expr-same-length-2 t c = search needs
 
--- src/expr.rt:75:1
+-- src/expr.rt:69:1
 compile-expr-same-length-3 : (t : ℕ) → compile-expr-lts.Need-same-length-3 (
   payload-at-reads.Asked,
   payload-at-reads.Learnt,
@@ -2553,7 +2553,7 @@ compile-expr-same-length-3 : (t : ℕ) → compile-expr-lts.Need-same-length-3 (
 ) (compile-expr-at t) compile-expr.Post
 compile-expr-same-length-3 t c = search needs
 
--- src/expr.rt:75:1
+-- src/expr.rt:69:1
 compile-expr-returns-2 : (t : ℕ) → compile-expr-lts.Need-returns-2 (
   payload-at-reads.Asked,
   payload-at-reads.Learnt,
@@ -2598,9 +2598,9 @@ compile-expr-returns-2 : (t : ℕ) → compile-expr-lts.Need-returns-2 (
   emit-inkey-reads.Asked,
   emit-inkey-reads.Learnt,
 ) (compile-expr-at t) compile-expr.Post
-compile-expr-returns-2 t c = at-var _ _ _ _ _ _ _ _ _ _ _ (head _ _ _ _ _ _ _ (c .before .before .before .before .before .before .before .before .before .before .before .before .before .before .before .before .if1 .left) (c .before .before .before .before .before .before .before .before .before .before .before .before .before .before .before .payload-at .ensures) (c .before .before .before .before .before .before .before .before .before .before .before .before .before .before .node-range .ensures) (c .before .before .before .before .before .before .before .before .before .before .before .before .before .behind .ensures) (c .before .before .before .before .before .before .before .before .before .before .before .before .behind2 .ensures)) (c .before .before .before .before .before .before .before .before .before .before .before .match .keys1) (c .before .before .before .before .before .before .before .var-node .ensures)
+compile-expr-returns-2 t c = at-var _ _ _ _ _ _ _ _ _ _ _ (head _ _ _ _ _ _ _ (c .before .before .before .before .before .before .before .before .before .before .before .before .before .before .before .before .before .before .before .before .before .if1 .left) (c .before .before .before .before .before .before .before .before .before .before .before .before .before .before .before .before .before .before .before .payload-at .ensures) (c .before .before .before .before .before .before .before .before .before .before .before .before .before .before .before .before .before .node-range .ensures) (c .before .before .before .before .before .before .before .before .before .before .before .before .before .before .behind .ensures) (c .before .before .before .before .before .before .before .before .before .before .before .before .before .behind2 .ensures)) (c .before .before .before .before .before .before .before .before .before .before .before .before .match .keys1) (c .before .before .before .before .before .before .var-node .ensures)
 
--- src/expr.rt:75:1
+-- src/expr.rt:69:1
 compile-expr-same-length-4 : (t : ℕ) → compile-expr-lts.Need-same-length-4 (
   payload-at-reads.Asked,
   payload-at-reads.Learnt,
@@ -2647,7 +2647,7 @@ compile-expr-same-length-4 : (t : ℕ) → compile-expr-lts.Need-same-length-4 (
 ) (compile-expr-at t) compile-expr.Post
 compile-expr-same-length-4 t c = search needs
 
--- src/expr.rt:75:1
+-- src/expr.rt:69:1
 compile-expr-same-length-5 : (t : ℕ) → compile-expr-lts.Need-same-length-5 (
   payload-at-reads.Asked,
   payload-at-reads.Learnt,
@@ -2694,7 +2694,7 @@ compile-expr-same-length-5 : (t : ℕ) → compile-expr-lts.Need-same-length-5 (
 ) (compile-expr-at t) compile-expr.Post
 compile-expr-same-length-5 t c = search needs
 
--- src/expr.rt:75:1
+-- src/expr.rt:69:1
 compile-expr-returns-3 : (t : ℕ) → compile-expr-lts.Need-returns-3 (
   payload-at-reads.Asked,
   payload-at-reads.Learnt,
@@ -2739,9 +2739,9 @@ compile-expr-returns-3 : (t : ℕ) → compile-expr-lts.Need-returns-3 (
   emit-inkey-reads.Asked,
   emit-inkey-reads.Learnt,
 ) (compile-expr-at t) compile-expr.Post
-compile-expr-returns-3 t c = at-text _ _ _ _ _ _ _ _ _ _ (head _ _ _ _ _ _ _ (c .before .before .before .before .before .before .before .before .before .before .before .before .if1 .left) (c .before .before .before .before .before .before .before .before .before .before .before .payload-at .ensures) (c .before .before .before .before .before .before .before .before .before .before .node-range .ensures) (c .before .before .before .before .before .before .before .before .before .behind .ensures) (c .before .before .before .before .before .before .before .before .behind2 .ensures)) (c .before .before .before .before .before .before .before .match .keys2) ((c .before .before .before .before .text-node .ensures) _)
+compile-expr-returns-3 t c = at-text _ _ _ _ _ _ _ _ _ _ (head _ _ _ _ _ _ _ (c .before .before .before .before .before .before .before .before .before .before .before .before .before .before .before .before .before .before .if1 .left) (c .before .before .before .before .before .before .before .before .before .before .before .before .before .before .before .before .payload-at .ensures) (c .before .before .before .before .before .before .before .before .before .before .before .before .before .before .node-range .ensures) (c .before .before .before .before .before .before .before .before .before .before .before .behind .ensures) (c .before .before .before .before .before .before .before .before .before .before .behind2 .ensures)) (c .before .before .before .before .before .before .before .before .before .match .keys2) ((c .before .before .before .before .text-node .ensures) _)
 
--- src/expr.rt:75:1
+-- src/expr.rt:69:1
 compile-expr-same-length-6 : (t : ℕ) → compile-expr-lts.Need-same-length-6 (
   payload-at-reads.Asked,
   payload-at-reads.Learnt,
@@ -2788,7 +2788,7 @@ compile-expr-same-length-6 : (t : ℕ) → compile-expr-lts.Need-same-length-6 (
 ) (compile-expr-at t) compile-expr.Post
 compile-expr-same-length-6 t c = search needs
 
--- src/expr.rt:75:1
+-- src/expr.rt:69:1
 compile-expr-same-length-7 : (t : ℕ) → compile-expr-lts.Need-same-length-7 (
   payload-at-reads.Asked,
   payload-at-reads.Learnt,
@@ -2835,7 +2835,7 @@ compile-expr-same-length-7 : (t : ℕ) → compile-expr-lts.Need-same-length-7 (
 ) (compile-expr-at t) compile-expr.Post
 compile-expr-same-length-7 t c = search needs
 
--- src/expr.rt:75:1
+-- src/expr.rt:69:1
 compile-expr-returns-4 : (t : ℕ) → compile-expr-lts.Need-returns-4 (
   payload-at-reads.Asked,
   payload-at-reads.Learnt,
@@ -2880,9 +2880,9 @@ compile-expr-returns-4 : (t : ℕ) → compile-expr-lts.Need-returns-4 (
   emit-inkey-reads.Asked,
   emit-inkey-reads.Learnt,
 ) (compile-expr-at t) compile-expr.Post
-compile-expr-returns-4 t c = at-number _ _ _ _ _ _ _ _ _ _ _ _ _ _ _ (head _ _ _ _ _ _ _ (c .before .before .before .before .before .before .before .before .before .before .before .before .before .before .before .before .if1 .left) (c .before .before .before .before .before .before .before .before .before .before .before .before .before .before .before .payload-at .ensures) (c .before .before .before .before .before .before .before .before .before .before .before .before .before .before .node-range .ensures) (c .before .before .before .before .before .before .before .before .before .before .before .before .before .behind .ensures) (c .before .before .before .before .before .before .before .before .before .before .before .before .behind2 .ensures)) (c .before .before .before .before .before .before .before .before .before .before .before .match .keys3) (c .before .before .before .before .before .before .before .before .before .before .read-payload .ensures) (c .before .before .before .before .before .before .before .before .before .mantissa-at .ensures) (c .before .before .before .before .before .before .before .before .behind3 .ensures) (c .before .before .before .before .before .before .before .behind4 .ensures) ((c .before .before .before .before .number-node .ensures) _ _ _)
+compile-expr-returns-4 t c = at-number _ _ _ _ _ _ _ _ _ _ _ _ _ _ _ (head _ _ _ _ _ _ _ (c .before .before .before .before .before .before .before .before .before .before .before .before .before .before .before .before .before .before .before .before .before .before .before .before .before .if1 .left) (c .before .before .before .before .before .before .before .before .before .before .before .before .before .before .before .before .before .before .before .before .before .before .before .payload-at .ensures) (c .before .before .before .before .before .before .before .before .before .before .before .before .before .before .before .before .before .before .before .before .before .node-range .ensures) (c .before .before .before .before .before .before .before .before .before .before .before .before .before .before .before .before .before .before .behind .ensures) (c .before .before .before .before .before .before .before .before .before .before .before .before .before .before .before .before .before .behind2 .ensures)) (c .before .before .before .before .before .before .before .before .before .before .before .before .before .before .before .before .match .keys3) (c .before .before .before .before .before .before .before .before .before .before .before .before .before .before .read-payload .ensures) (c .before .before .before .before .before .before .before .before .before .before .before .before .mantissa-at .ensures) (c .before .before .before .before .before .before .before .before .before .behind3 .ensures) (c .before .before .before .before .before .before .before .before .behind4 .ensures) ((c .before .before .before .before .number-node .ensures) _ _ _)
 
--- src/expr.rt:75:1
+-- src/expr.rt:69:1
 compile-expr-same-length-8 : (t : ℕ) → compile-expr-lts.Need-same-length-8 (
   payload-at-reads.Asked,
   payload-at-reads.Learnt,
@@ -2927,9 +2927,9 @@ compile-expr-same-length-8 : (t : ℕ) → compile-expr-lts.Need-same-length-8 (
   emit-inkey-reads.Asked,
   emit-inkey-reads.Learnt,
 ) (compile-expr-at t) compile-expr.Post
-compile-expr-same-length-8 t c = (c .before .before .before .func-node .kept .0) ∙ (c .before .before .before .before .before .before .before .before .before .before .before .before .compile-args .kept .1 .1 .0)
+compile-expr-same-length-8 t c = (c .before .before .func-node .kept .0) ∙ (c .before .before .before .before .before .before .before .before .before .before .before .compile-args .kept .1 .1 .0)
 
--- src/expr.rt:75:1
+-- src/expr.rt:69:1
 compile-expr-same-length-9 : (t : ℕ) → compile-expr-lts.Need-same-length-9 (
   payload-at-reads.Asked,
   payload-at-reads.Learnt,
@@ -2974,9 +2974,9 @@ compile-expr-same-length-9 : (t : ℕ) → compile-expr-lts.Need-same-length-9 (
   emit-inkey-reads.Asked,
   emit-inkey-reads.Learnt,
 ) (compile-expr-at t) compile-expr.Post
-compile-expr-same-length-9 t c = (c .before .before .before .before .before .before .before .before .before .before .before .before .compile-args .kept .1 .1 .1 .0) ∙ (c .before .before .before .before .before .before .before .before .before .before .before .before .before .before .before .before .before .before .func-notes .kept .0)
+compile-expr-same-length-9 t c = (c .before .before .before .before .before .before .before .before .before .before .before .compile-args .kept .1 .1 .1 .0) ∙ (c .before .before .before .before .before .before .before .before .before .before .before .before .before .before .before .before .before .before .func-notes .kept .0)
 
--- src/expr.rt:75:1
+-- src/expr.rt:69:1
 compile-expr-same-length-10 : (t : ℕ) → compile-expr-lts.Need-same-length-10 (
   payload-at-reads.Asked,
   payload-at-reads.Learnt,
@@ -3021,9 +3021,9 @@ compile-expr-same-length-10 : (t : ℕ) → compile-expr-lts.Need-same-length-10
   emit-inkey-reads.Asked,
   emit-inkey-reads.Learnt,
 ) (compile-expr-at t) compile-expr.Post
-compile-expr-same-length-10 t c = (c .before .before .before .before .before .before .before .before .before .before .before .before .compile-args .kept .1 .1 .1 .1 .0)
+compile-expr-same-length-10 t c = (c .before .before .before .before .before .before .before .before .before .before .before .compile-args .kept .1 .1 .1 .1 .0)
 
--- src/expr.rt:75:1
+-- src/expr.rt:69:1
 compile-expr-returns-5 : (t : ℕ) → compile-expr-lts.Need-returns-5 (
   payload-at-reads.Asked,
   payload-at-reads.Learnt,
@@ -3068,9 +3068,9 @@ compile-expr-returns-5 : (t : ℕ) → compile-expr-lts.Need-returns-5 (
   emit-inkey-reads.Asked,
   emit-inkey-reads.Learnt,
 ) (compile-expr-at t) compile-expr.Post
-compile-expr-returns-5 t c = at-func _ _ _ _ _ _ _ _ _ _ _ _ _ _ _ _ _ _ _ (head _ _ _ _ _ _ _ (c .before .before .before .before .before .before .before .before .before .before .before .before .before .before .before .before .before .before .before .before .before .before .before .before .before .before .before .before .if1 .left) (c .before .before .before .before .before .before .before .before .before .before .before .before .before .before .before .before .before .before .before .before .before .before .before .before .before .before .before .payload-at .ensures) (c .before .before .before .before .before .before .before .before .before .before .before .before .before .before .before .before .before .before .before .before .before .before .before .before .before .before .node-range .ensures) (c .before .before .before .before .before .before .before .before .before .before .before .before .before .before .before .before .before .before .before .before .before .before .before .before .before .behind .ensures) (c .before .before .before .before .before .before .before .before .before .before .before .before .before .before .before .before .before .before .before .before .before .before .before .before .behind2 .ensures)) (c .before .before .before .before .before .before .before .before .before .before .before .before .before .before .before .before .before .before .before .before .before .before .before .match .keys4) (c .before .before .before .before .before .before .before .before .before .before .before .before .before .before .before .before .before .before .before .before .before .before .op-at .ensures) (c .before .before .before .before .before .before .before .before .before .before .before .before .before .before .before .before .before .before .before .before .read-payload2 .ensures) ((c .before .before .before .before .before .before .before .before .before .before .before .before .before .before .before .before .before .before .func-notes .ensures) _ _ _ _) (c .before .before .before .before .before .before .before .before .before .before .before .before .compile-args .ensures) ((c .before .before .before .func-node .ensures) _ _ _ _)
+compile-expr-returns-5 t c = at-func _ _ _ _ _ _ _ _ _ _ _ _ _ _ _ _ _ _ _ (head _ _ _ _ _ _ _ (c .before .before .before .before .before .before .before .before .before .before .before .before .before .before .before .before .before .before .before .before .before .before .before .before .before .before .before .before .before .before .before .before .before .before .before .if1 .left) (c .before .before .before .before .before .before .before .before .before .before .before .before .before .before .before .before .before .before .before .before .before .before .before .before .before .before .before .before .before .before .before .before .before .payload-at .ensures) (c .before .before .before .before .before .before .before .before .before .before .before .before .before .before .before .before .before .before .before .before .before .before .before .before .before .before .before .before .before .before .before .node-range .ensures) (c .before .before .before .before .before .before .before .before .before .before .before .before .before .before .before .before .before .before .before .before .before .before .before .before .before .before .before .before .behind .ensures) (c .before .before .before .before .before .before .before .before .before .before .before .before .before .before .before .before .before .before .before .before .before .before .before .before .before .before .before .behind2 .ensures)) (c .before .before .before .before .before .before .before .before .before .before .before .before .before .before .before .before .before .before .before .before .before .before .before .before .before .before .match .keys4) (c .before .before .before .before .before .before .before .before .before .before .before .before .before .before .before .before .before .before .before .before .before .before .before .before .op-at .ensures) (c .before .before .before .before .before .before .before .before .before .before .before .before .before .before .before .before .before .before .before .before .before .read-payload2 .ensures) ((c .before .before .before .before .before .before .before .before .before .before .before .before .before .before .before .before .before .before .func-notes .ensures) _ _ _ _) (c .before .before .before .before .before .before .before .before .before .before .before .compile-args .ensures) ((c .before .before .func-node .ensures) _ _ _ _)
 
--- src/expr.rt:75:1
+-- src/expr.rt:69:1
 compile-expr-same-length-11 : (t : ℕ) → compile-expr-lts.Need-same-length-11 (
   payload-at-reads.Asked,
   payload-at-reads.Learnt,
@@ -3115,9 +3115,9 @@ compile-expr-same-length-11 : (t : ℕ) → compile-expr-lts.Need-same-length-11
   emit-inkey-reads.Asked,
   emit-inkey-reads.Learnt,
 ) (compile-expr-at t) compile-expr.Post
-compile-expr-same-length-11 t c = (c .before .before .user-call .kept .0) ∙ (c .before .before .before .before .before .before .before .before .before .before .before .before .before .before .before .before .compile-expr .kept .1 .1 .0)
+compile-expr-same-length-11 t c = (c .before .before .user-call .kept .0) ∙ (c .before .before .before .before .before .before .before .before .before .before .before .before .before .before .before .before .before .before .compile-expr .kept .1 .1 .0)
 
--- src/expr.rt:75:1
+-- src/expr.rt:69:1
 compile-expr-same-length-12 : (t : ℕ) → compile-expr-lts.Need-same-length-12 (
   payload-at-reads.Asked,
   payload-at-reads.Learnt,
@@ -3162,9 +3162,9 @@ compile-expr-same-length-12 : (t : ℕ) → compile-expr-lts.Need-same-length-12
   emit-inkey-reads.Asked,
   emit-inkey-reads.Learnt,
 ) (compile-expr-at t) compile-expr.Post
-compile-expr-same-length-12 t c = (c .before .before .before .before .before .before .check-type .kept .0) ∙ (c .before .before .before .before .before .before .before .before .before .before .before .before .before .before .before .before .compile-expr .kept .1 .1 .1 .0) ∙ (c .before .before .before .before .before .before .before .before .before .before .before .before .before .before .before .before .before .before .before .before .before .before .before .before .before .opt-real-sym .kept .1 .0)
+compile-expr-same-length-12 t c = (c .before .before .before .before .before .before .before .check-type .kept .0) ∙ (c .before .before .before .before .before .before .before .before .before .before .before .before .before .before .before .before .before .before .compile-expr .kept .1 .1 .1 .0) ∙ (c .before .before .before .before .before .before .before .before .before .before .before .before .before .before .before .before .before .before .before .before .before .before .before .before .before .before .before .opt-real-sym .kept .1 .0)
 
--- src/expr.rt:75:1
+-- src/expr.rt:69:1
 compile-expr-same-length-13 : (t : ℕ) → compile-expr-lts.Need-same-length-13 (
   payload-at-reads.Asked,
   payload-at-reads.Learnt,
@@ -3209,9 +3209,9 @@ compile-expr-same-length-13 : (t : ℕ) → compile-expr-lts.Need-same-length-13
   emit-inkey-reads.Asked,
   emit-inkey-reads.Learnt,
 ) (compile-expr-at t) compile-expr.Post
-compile-expr-same-length-13 t c = (c .before .before .before .before .before .before .before .before .before .before .before .before .before .before .before .before .compile-expr .kept .1 .1 .1 .1 .0) ∙ (c .before .before .before .before .before .before .before .before .before .before .before .before .before .before .before .before .before .before .before .before .before .before .before .before .before .opt-real-sym .kept .1 .1 .0)
+compile-expr-same-length-13 t c = (c .before .before .before .before .before .before .before .before .before .before .before .before .before .before .before .before .before .before .compile-expr .kept .1 .1 .1 .1 .0) ∙ (c .before .before .before .before .before .before .before .before .before .before .before .before .before .before .before .before .before .before .before .before .before .before .before .before .before .before .before .opt-real-sym .kept .1 .1 .0)
 
--- src/expr.rt:75:1
+-- src/expr.rt:69:1
 compile-expr-returns-6 : (t : ℕ) → compile-expr-lts.Need-returns-6 (
   payload-at-reads.Asked,
   payload-at-reads.Learnt,
@@ -3256,9 +3256,9 @@ compile-expr-returns-6 : (t : ℕ) → compile-expr-lts.Need-returns-6 (
   emit-inkey-reads.Asked,
   emit-inkey-reads.Learnt,
 ) (compile-expr-at t) compile-expr.Post
-compile-expr-returns-6 t c = at-user _ _ _ _ _ _ _ _ (c .before .before .before .before .before .before .before .before .before .before .before .before .before .before .before .before .before .before .before .before .before .before .before .before .before .before .before .before .before .opt-range-at .result) _ _ _ _ _ _ _ _ _ _ (head _ _ _ _ _ _ _ (c .before .before .before .before .before .before .before .before .before .before .before .before .before .before .before .before .before .before .before .before .before .before .before .before .before .before .before .before .before .before .before .before .before .before .before .if1 .left) (c .before .before .before .before .before .before .before .before .before .before .before .before .before .before .before .before .before .before .before .before .before .before .before .before .before .before .before .before .before .before .before .before .before .before .payload-at .ensures) (c .before .before .before .before .before .before .before .before .before .before .before .before .before .before .before .before .before .before .before .before .before .before .before .before .before .before .before .before .before .before .before .before .before .node-range .ensures) (c .before .before .before .before .before .before .before .before .before .before .before .before .before .before .before .before .before .before .before .before .before .before .before .before .before .before .before .before .before .before .before .before .behind .ensures) (c .before .before .before .before .before .before .before .before .before .before .before .before .before .before .before .before .before .before .before .before .before .before .before .before .before .before .before .before .before .before .before .behind2 .ensures)) (c .before .before .before .before .before .before .before .before .before .before .before .before .before .before .before .before .before .before .before .before .before .before .before .before .before .before .before .before .before .before .match .keys5) (c .before .before .before .before .before .before .before .before .before .before .before .before .before .before .before .before .before .before .before .before .before .before .before .before .before .before .before .before .before .opt-range-at .ensures) (c .before .before .before .before .before .before .before .before .before .before .before .before .before .before .before .before .before .before .before .before .before .before .before .before .before .before .before .before .behind5 .ensures) ((c .before .before .before .before .before .before .before .before .before .before .before .before .before .before .before .before .before .before .before .before .before .before .before .before .before .opt-real-sym .ensures) _) (c .before .before .before .before .before .before .before .before .before .before .before .before .before .before .before .before .compile-expr .ensures) (c .before .before .before .before .before .before .before .node-range2 .ensures) ((c .before .before .before .before .before .before .check-type .ensures) _ _ _ _) ((c .before .before .user-call .ensures) (c .before .before .before .before .before .before .before .before .before .before .before .before .before .before .before .before .before .before .before .before .before .before .before .before .before .before .before .before .before .before .before .before .before .before .before .before .before .before .before .before .before .args .text .now) _ _ (c .before .before .before .before .before .before .before .before .before .before .before .before .before .before .before .before .before .before .before .before .before .before .before .before .before .before .before .before .before .before .before .before .before .before .before .before .before .before .before .before .before .args .base))
+compile-expr-returns-6 t c = at-user _ _ _ _ _ _ _ _ (c .before .before .before .before .before .before .before .before .before .before .before .before .before .before .before .before .before .before .before .before .before .before .before .before .before .before .before .before .before .before .before .before .before .before .opt-range-at .result) _ _ _ _ _ _ _ _ _ _ (head _ _ _ _ _ _ _ (c .before .before .before .before .before .before .before .before .before .before .before .before .before .before .before .before .before .before .before .before .before .before .before .before .before .before .before .before .before .before .before .before .before .before .before .before .before .before .before .before .before .before .before .before .before .if1 .left) (c .before .before .before .before .before .before .before .before .before .before .before .before .before .before .before .before .before .before .before .before .before .before .before .before .before .before .before .before .before .before .before .before .before .before .before .before .before .before .before .before .before .before .before .payload-at .ensures) (c .before .before .before .before .before .before .before .before .before .before .before .before .before .before .before .before .before .before .before .before .before .before .before .before .before .before .before .before .before .before .before .before .before .before .before .before .before .before .before .before .before .node-range .ensures) (c .before .before .before .before .before .before .before .before .before .before .before .before .before .before .before .before .before .before .before .before .before .before .before .before .before .before .before .before .before .before .before .before .before .before .before .before .before .before .behind .ensures) (c .before .before .before .before .before .before .before .before .before .before .before .before .before .before .before .before .before .before .before .before .before .before .before .before .before .before .before .before .before .before .before .before .before .before .before .before .before .behind2 .ensures)) (c .before .before .before .before .before .before .before .before .before .before .before .before .before .before .before .before .before .before .before .before .before .before .before .before .before .before .before .before .before .before .before .before .before .before .before .before .match .keys5) (c .before .before .before .before .before .before .before .before .before .before .before .before .before .before .before .before .before .before .before .before .before .before .before .before .before .before .before .before .before .before .before .before .before .before .opt-range-at .ensures) (c .before .before .before .before .before .before .before .before .before .before .before .before .before .before .before .before .before .before .before .before .before .before .before .before .before .before .before .before .before .before .before .before .behind5 .ensures) ((c .before .before .before .before .before .before .before .before .before .before .before .before .before .before .before .before .before .before .before .before .before .before .before .before .before .before .before .opt-real-sym .ensures) _) (c .before .before .before .before .before .before .before .before .before .before .before .before .before .before .before .before .before .before .compile-expr .ensures) (c .before .before .before .before .before .before .before .before .node-range2 .ensures) ((c .before .before .before .before .before .before .before .check-type .ensures) _ _ _ _) ((c .before .before .user-call .ensures) (c .before .before .before .before .before .before .before .before .before .before .before .before .before .before .before .before .before .before .before .before .before .before .before .before .before .before .before .before .before .before .before .before .before .before .before .before .before .before .before .before .before .before .before .before .before .before .before .before .before .args .text .now .now) _ _ (c .before .before .before .before .before .before .before .before .before .before .before .before .before .before .before .before .before .before .before .before .before .before .before .before .before .before .before .before .before .before .before .before .before .before .before .before .before .before .before .before .before .before .before .before .before .before .before .before .before .args .base))
 
--- src/expr.rt:75:1
+-- src/expr.rt:69:1
 compile-expr-same-length-14 : (t : ℕ) → compile-expr-lts.Need-same-length-14 (
   payload-at-reads.Asked,
   payload-at-reads.Learnt,
@@ -3303,9 +3303,9 @@ compile-expr-same-length-14 : (t : ℕ) → compile-expr-lts.Need-same-length-14
   emit-inkey-reads.Asked,
   emit-inkey-reads.Learnt,
 ) (compile-expr-at t) compile-expr.Post
-compile-expr-same-length-14 t c = (c .before .before .before .before .before .binary-node .kept .0) ∙ (c .before .before .before .before .before .before .before .before .before .before .before .before .before .before .before .before .before .compile-expr3 .kept .1 .1 .0) ∙ (c .before .before .before .before .before .before .before .before .before .before .before .before .before .before .before .before .before .before .before .before .before .before .before .before .before .before .before .before .before .before .compile-expr2 .kept .1 .1 .0)
+compile-expr-same-length-14 t c = (c .before .before .before .before .binary-node .kept .0) ∙ (c .before .before .before .before .before .before .before .before .before .before .before .before .before .before .before .before .before .before .compile-expr3 .kept .1 .1 .0) ∙ (c .before .before .before .before .before .before .before .before .before .before .before .before .before .before .before .before .before .before .before .before .before .before .before .before .before .before .before .before .before .before .before .before .compile-expr2 .kept .1 .1 .0)
 
--- src/expr.rt:75:1
+-- src/expr.rt:69:1
 compile-expr-same-length-15 : (t : ℕ) → compile-expr-lts.Need-same-length-15 (
   payload-at-reads.Asked,
   payload-at-reads.Learnt,
@@ -3350,9 +3350,9 @@ compile-expr-same-length-15 : (t : ℕ) → compile-expr-lts.Need-same-length-15
   emit-inkey-reads.Asked,
   emit-inkey-reads.Learnt,
 ) (compile-expr-at t) compile-expr.Post
-compile-expr-same-length-15 t c = (c .before .before .before .before .before .binary-node .kept .1 .0) ∙ (c .before .before .before .before .before .before .before .before .before .before .before .before .before .before .before .before .before .compile-expr3 .kept .1 .1 .1 .0) ∙ (c .before .before .before .before .before .before .before .before .before .before .before .before .before .before .before .before .before .before .before .before .before .before .before .before .before .before .before .before .before .before .compile-expr2 .kept .1 .1 .1 .0)
+compile-expr-same-length-15 t c = (c .before .before .before .before .binary-node .kept .1 .0) ∙ (c .before .before .before .before .before .before .before .before .before .before .before .before .before .before .before .before .before .before .compile-expr3 .kept .1 .1 .1 .0) ∙ (c .before .before .before .before .before .before .before .before .before .before .before .before .before .before .before .before .before .before .before .before .before .before .before .before .before .before .before .before .before .before .before .before .compile-expr2 .kept .1 .1 .1 .0)
 
--- src/expr.rt:75:1
+-- src/expr.rt:69:1
 compile-expr-same-length-16 : (t : ℕ) → compile-expr-lts.Need-same-length-16 (
   payload-at-reads.Asked,
   payload-at-reads.Learnt,
@@ -3397,9 +3397,9 @@ compile-expr-same-length-16 : (t : ℕ) → compile-expr-lts.Need-same-length-16
   emit-inkey-reads.Asked,
   emit-inkey-reads.Learnt,
 ) (compile-expr-at t) compile-expr.Post
-compile-expr-same-length-16 t c = (c .before .before .before .before .before .before .before .before .before .before .before .before .before .before .before .before .before .compile-expr3 .kept .1 .1 .1 .1 .0) ∙ (c .before .before .before .before .before .before .before .before .before .before .before .before .before .before .before .before .before .before .before .before .before .before .before .before .before .before .before .before .before .before .compile-expr2 .kept .1 .1 .1 .1 .0)
+compile-expr-same-length-16 t c = (c .before .before .before .before .before .before .before .before .before .before .before .before .before .before .before .before .before .before .compile-expr3 .kept .1 .1 .1 .1 .0) ∙ (c .before .before .before .before .before .before .before .before .before .before .before .before .before .before .before .before .before .before .before .before .before .before .before .before .before .before .before .before .before .before .before .before .compile-expr2 .kept .1 .1 .1 .1 .0)
 
--- src/expr.rt:75:1
+-- src/expr.rt:69:1
 compile-expr-returns-7 : (t : ℕ) → compile-expr-lts.Need-returns-7 (
   payload-at-reads.Asked,
   payload-at-reads.Learnt,
@@ -3444,9 +3444,9 @@ compile-expr-returns-7 : (t : ℕ) → compile-expr-lts.Need-returns-7 (
   emit-inkey-reads.Asked,
   emit-inkey-reads.Learnt,
 ) (compile-expr-at t) compile-expr.Post
-compile-expr-returns-7 t c = at-binary _ _ _ _ _ _ _ _ _ _ _ _ _ _ _ _ _ _ _ _ _ _ (head _ _ _ _ _ _ _ (c .before .before .before .before .before .before .before .before .before .before .before .before .before .before .before .before .before .before .before .before .before .before .before .before .before .before .before .before .before .before .before .before .before .before .before .before .before .before .before .if1 .left) (c .before .before .before .before .before .before .before .before .before .before .before .before .before .before .before .before .before .before .before .before .before .before .before .before .before .before .before .before .before .before .before .before .before .before .before .before .before .before .payload-at .ensures) (c .before .before .before .before .before .before .before .before .before .before .before .before .before .before .before .before .before .before .before .before .before .before .before .before .before .before .before .before .before .before .before .before .before .before .before .before .before .node-range .ensures) (c .before .before .before .before .before .before .before .before .before .before .before .before .before .before .before .before .before .before .before .before .before .before .before .before .before .before .before .before .before .before .before .before .before .before .before .before .behind .ensures) (c .before .before .before .before .before .before .before .before .before .before .before .before .before .before .before .before .before .before .before .before .before .before .before .before .before .before .before .before .before .before .before .before .before .before .before .behind2 .ensures)) (c .before .before .before .before .before .before .before .before .before .before .before .before .before .before .before .before .before .before .before .before .before .before .before .before .before .before .before .before .before .before .before .before .before .before .match .keys6) (c .before .before .before .before .before .before .before .before .before .before .before .before .before .before .before .before .before .before .before .before .before .before .before .before .before .before .before .before .before .before .compile-expr2 .ensures) (c .before .before .before .before .before .before .before .before .before .before .before .before .before .before .before .before .before .before .before .before .before .before .op-at2 .ensures) (c .before .before .before .before .before .before .before .before .before .before .before .before .before .before .before .before .before .compile-expr3 .ensures) (c .before .before .before .before .before .before .before .before .before .node-range3 .ensures) (c .before .before .before .before .before .before .before .before .node-range4 .ensures) ((c .before .before .before .before .before .binary-node .ensures) _ _ _)
+compile-expr-returns-7 t c = at-binary _ _ _ _ _ _ _ _ _ _ _ _ _ _ _ _ _ _ _ _ _ _ (head _ _ _ _ _ _ _ (c .before .before .before .before .before .before .before .before .before .before .before .before .before .before .before .before .before .before .before .before .before .before .before .before .before .before .before .before .before .before .before .before .before .before .before .before .before .before .before .before .before .before .before .before .before .before .if1 .left) (c .before .before .before .before .before .before .before .before .before .before .before .before .before .before .before .before .before .before .before .before .before .before .before .before .before .before .before .before .before .before .before .before .before .before .before .before .before .before .before .before .before .before .before .before .payload-at .ensures) (c .before .before .before .before .before .before .before .before .before .before .before .before .before .before .before .before .before .before .before .before .before .before .before .before .before .before .before .before .before .before .before .before .before .before .before .before .before .before .before .before .before .before .node-range .ensures) (c .before .before .before .before .before .before .before .before .before .before .before .before .before .before .before .before .before .before .before .before .before .before .before .before .before .before .before .before .before .before .before .before .before .before .before .before .before .before .before .behind .ensures) (c .before .before .before .before .before .before .before .before .before .before .before .before .before .before .before .before .before .before .before .before .before .before .before .before .before .before .before .before .before .before .before .before .before .before .before .before .before .before .behind2 .ensures)) (c .before .before .before .before .before .before .before .before .before .before .before .before .before .before .before .before .before .before .before .before .before .before .before .before .before .before .before .before .before .before .before .before .before .before .before .before .before .match .keys6) (c .before .before .before .before .before .before .before .before .before .before .before .before .before .before .before .before .before .before .before .before .before .before .before .before .before .before .before .before .before .before .before .before .compile-expr2 .ensures) (c .before .before .before .before .before .before .before .before .before .before .before .before .before .before .before .before .before .before .before .before .before .before .before .before .op-at2 .ensures) (c .before .before .before .before .before .before .before .before .before .before .before .before .before .before .before .before .before .before .compile-expr3 .ensures) (c .before .before .before .before .before .before .before .before .before .before .node-range3 .ensures) (c .before .before .before .before .before .before .before .before .node-range4 .ensures) ((c .before .before .before .before .binary-node .ensures) _ _ _)
 
--- src/expr.rt:75:1
+-- src/expr.rt:69:1
 compile-expr-same-length-17 : (t : ℕ) → compile-expr-lts.Need-same-length-17 (
   payload-at-reads.Asked,
   payload-at-reads.Learnt,
@@ -3491,9 +3491,9 @@ compile-expr-same-length-17 : (t : ℕ) → compile-expr-lts.Need-same-length-17
   emit-inkey-reads.Asked,
   emit-inkey-reads.Learnt,
 ) (compile-expr-at t) compile-expr.Post
-compile-expr-same-length-17 t c = (c .before .before .before .before .before .unary-node .kept .0) ∙ (c .before .before .before .before .before .before .before .before .before .before .before .before .before .before .before .before .compile-expr4 .kept .1 .1 .0)
+compile-expr-same-length-17 t c = (c .before .before .before .before .unary-node .kept .0) ∙ (c .before .before .before .before .before .before .before .before .before .before .before .before .before .before .before .before .compile-expr4 .kept .1 .1 .0)
 
--- src/expr.rt:75:1
+-- src/expr.rt:69:1
 compile-expr-same-length-18 : (t : ℕ) → compile-expr-lts.Need-same-length-18 (
   payload-at-reads.Asked,
   payload-at-reads.Learnt,
@@ -3538,9 +3538,9 @@ compile-expr-same-length-18 : (t : ℕ) → compile-expr-lts.Need-same-length-18
   emit-inkey-reads.Asked,
   emit-inkey-reads.Learnt,
 ) (compile-expr-at t) compile-expr.Post
-compile-expr-same-length-18 t c = (c .before .before .before .before .before .unary-node .kept .1 .0) ∙ (c .before .before .before .before .before .before .before .before .before .before .before .before .before .before .before .before .compile-expr4 .kept .1 .1 .1 .0)
+compile-expr-same-length-18 t c = (c .before .before .before .before .unary-node .kept .1 .0) ∙ (c .before .before .before .before .before .before .before .before .before .before .before .before .before .before .before .before .compile-expr4 .kept .1 .1 .1 .0)
 
--- src/expr.rt:75:1
+-- src/expr.rt:69:1
 compile-expr-same-length-19 : (t : ℕ) → compile-expr-lts.Need-same-length-19 (
   payload-at-reads.Asked,
   payload-at-reads.Learnt,
@@ -3587,7 +3587,7 @@ compile-expr-same-length-19 : (t : ℕ) → compile-expr-lts.Need-same-length-19
 ) (compile-expr-at t) compile-expr.Post
 compile-expr-same-length-19 t c = (c .before .before .before .before .before .before .before .before .before .before .before .before .before .before .before .before .compile-expr4 .kept .1 .1 .1 .1 .0)
 
--- src/expr.rt:75:1
+-- src/expr.rt:69:1
 compile-expr-returns-8 : (t : ℕ) → compile-expr-lts.Need-returns-8 (
   payload-at-reads.Asked,
   payload-at-reads.Learnt,
@@ -3632,9 +3632,9 @@ compile-expr-returns-8 : (t : ℕ) → compile-expr-lts.Need-returns-8 (
   emit-inkey-reads.Asked,
   emit-inkey-reads.Learnt,
 ) (compile-expr-at t) compile-expr.Post
-compile-expr-returns-8 t c = at-unary _ _ _ _ _ _ _ _ _ _ _ _ _ _ _ _ _ _ (head _ _ _ _ _ _ _ (c .before .before .before .before .before .before .before .before .before .before .before .before .before .before .before .before .before .before .before .before .before .before .before .before .before .before .if1 .left) (c .before .before .before .before .before .before .before .before .before .before .before .before .before .before .before .before .before .before .before .before .before .before .before .before .before .payload-at .ensures) (c .before .before .before .before .before .before .before .before .before .before .before .before .before .before .before .before .before .before .before .before .before .before .before .before .node-range .ensures) (c .before .before .before .before .before .before .before .before .before .before .before .before .before .before .before .before .before .before .before .before .before .before .before .behind .ensures) (c .before .before .before .before .before .before .before .before .before .before .before .before .before .before .before .before .before .before .before .before .before .before .behind2 .ensures)) (c .before .before .before .before .before .before .before .before .before .before .before .before .before .before .before .before .before .before .before .before .before .match .keys7) (c .before .before .before .before .before .before .before .before .before .before .before .before .before .before .before .before .before .before .before .before .op-at3 .ensures) (c .before .before .before .before .before .before .before .before .before .before .before .before .before .before .before .before .compile-expr4 .ensures) (c .before .before .before .before .before .before .before .before .node-range5 .ensures) ((c .before .before .before .before .before .unary-node .ensures) _ _ _)
+compile-expr-returns-8 t c = at-unary _ _ _ _ _ _ _ _ _ _ _ _ _ _ _ _ _ _ (head _ _ _ _ _ _ _ (c .before .before .before .before .before .before .before .before .before .before .before .before .before .before .before .before .before .before .before .before .before .before .before .before .before .before .before .before .before .before .before .before .if1 .left) (c .before .before .before .before .before .before .before .before .before .before .before .before .before .before .before .before .before .before .before .before .before .before .before .before .before .before .before .before .before .before .payload-at .ensures) (c .before .before .before .before .before .before .before .before .before .before .before .before .before .before .before .before .before .before .before .before .before .before .before .before .before .before .before .before .node-range .ensures) (c .before .before .before .before .before .before .before .before .before .before .before .before .before .before .before .before .before .before .before .before .before .before .before .before .before .behind .ensures) (c .before .before .before .before .before .before .before .before .before .before .before .before .before .before .before .before .before .before .before .before .before .before .before .before .behind2 .ensures)) (c .before .before .before .before .before .before .before .before .before .before .before .before .before .before .before .before .before .before .before .before .before .before .before .match .keys7) (c .before .before .before .before .before .before .before .before .before .before .before .before .before .before .before .before .before .before .before .before .before .op-at3 .ensures) (c .before .before .before .before .before .before .before .before .before .before .before .before .before .before .before .before .compile-expr4 .ensures) (c .before .before .before .before .before .before .before .before .node-range5 .ensures) ((c .before .before .before .before .unary-node .ensures) _ _ _)
 
--- src/expr.rt:75:1
+-- src/expr.rt:69:1
 compile-expr-same-length-20 : (t : ℕ) → compile-expr-lts.Need-same-length-20 (
   payload-at-reads.Asked,
   payload-at-reads.Learnt,
@@ -3679,9 +3679,9 @@ compile-expr-same-length-20 : (t : ℕ) → compile-expr-lts.Need-same-length-20
   emit-inkey-reads.Asked,
   emit-inkey-reads.Learnt,
 ) (compile-expr-at t) compile-expr.Post
-compile-expr-same-length-20 t c = (c .before .before .before .before .before .before .before .index-node .kept .1 .0) ∙ (c .before .before .before .before .before .before .before .before .before .before .before .before .before .before .before .before .before .before .compile-args2 .kept .1 .1 .0)
+compile-expr-same-length-20 t c = (c .before .before .before .before .before .before .index-node .kept .1 .0) ∙ (c .before .before .before .before .before .before .before .before .before .before .before .before .before .before .before .before .before .before .compile-args2 .kept .1 .1 .0)
 
--- src/expr.rt:75:1
+-- src/expr.rt:69:1
 compile-expr-same-length-21 : (t : ℕ) → compile-expr-lts.Need-same-length-21 (
   payload-at-reads.Asked,
   payload-at-reads.Learnt,
@@ -3726,9 +3726,9 @@ compile-expr-same-length-21 : (t : ℕ) → compile-expr-lts.Need-same-length-21
   emit-inkey-reads.Asked,
   emit-inkey-reads.Learnt,
 ) (compile-expr-at t) compile-expr.Post
-compile-expr-same-length-21 t c = (c .before .before .before .before .before .before .before .index-node .kept .1 .1 .0) ∙ (c .before .before .before .before .before .before .before .before .before .before .before .before .before .before .before .before .before .before .compile-args2 .kept .1 .1 .1 .0)
+compile-expr-same-length-21 t c = (c .before .before .before .before .before .before .index-node .kept .1 .1 .0) ∙ (c .before .before .before .before .before .before .before .before .before .before .before .before .before .before .before .before .before .before .compile-args2 .kept .1 .1 .1 .0)
 
--- src/expr.rt:75:1
+-- src/expr.rt:69:1
 compile-expr-same-length-22 : (t : ℕ) → compile-expr-lts.Need-same-length-22 (
   payload-at-reads.Asked,
   payload-at-reads.Learnt,
@@ -3773,9 +3773,9 @@ compile-expr-same-length-22 : (t : ℕ) → compile-expr-lts.Need-same-length-22
   emit-inkey-reads.Asked,
   emit-inkey-reads.Learnt,
 ) (compile-expr-at t) compile-expr.Post
-compile-expr-same-length-22 t c = (c .before .before .before .before .before .before .before .index-node .kept .1 .1 .1 .0) ∙ (c .before .before .before .before .before .before .before .before .before .before .before .before .before .before .before .before .before .before .compile-args2 .kept .1 .1 .1 .1 .0)
+compile-expr-same-length-22 t c = (c .before .before .before .before .before .before .index-node .kept .1 .1 .1 .0) ∙ (c .before .before .before .before .before .before .before .before .before .before .before .before .before .before .before .before .before .before .compile-args2 .kept .1 .1 .1 .1 .0)
 
--- src/expr.rt:75:1
+-- src/expr.rt:69:1
 compile-expr-returns-9 : (t : ℕ) → compile-expr-lts.Need-returns-9 (
   payload-at-reads.Asked,
   payload-at-reads.Learnt,
@@ -3820,9 +3820,9 @@ compile-expr-returns-9 : (t : ℕ) → compile-expr-lts.Need-returns-9 (
   emit-inkey-reads.Asked,
   emit-inkey-reads.Learnt,
 ) (compile-expr-at t) compile-expr.Post
-compile-expr-returns-9 t c = at-index _ _ _ _ _ _ _ _ (c .before .before .before .before .before .before .before .before .before .before .before .before .before .before .before .before .before .before .before .before .before .before .before .before .opt-range-at2 .result) _ _ _ _ _ _ _ _ (head _ _ _ _ _ _ _ (c .before .before .before .before .before .before .before .before .before .before .before .before .before .before .before .before .before .before .before .before .before .before .before .before .before .before .before .before .before .before .if1 .left) (c .before .before .before .before .before .before .before .before .before .before .before .before .before .before .before .before .before .before .before .before .before .before .before .before .before .before .before .before .before .payload-at .ensures) (c .before .before .before .before .before .before .before .before .before .before .before .before .before .before .before .before .before .before .before .before .before .before .before .before .before .before .before .before .node-range .ensures) (c .before .before .before .before .before .before .before .before .before .before .before .before .before .before .before .before .before .before .before .before .before .before .before .before .before .before .before .behind .ensures) (c .before .before .before .before .before .before .before .before .before .before .before .before .before .before .before .before .before .before .before .before .before .before .before .before .before .before .behind2 .ensures)) (c .before .before .before .before .before .before .before .before .before .before .before .before .before .before .before .before .before .before .before .before .before .before .before .before .before .match .keys8) (c .before .before .before .before .before .before .before .before .before .before .before .before .before .before .before .before .before .before .before .before .before .before .before .before .opt-range-at2 .ensures) (c .before .before .before .before .before .before .before .before .before .before .before .before .before .before .before .before .before .before .before .before .before .before .before .behind6 .ensures) (c .before .before .before .before .before .before .before .before .before .before .before .before .before .before .before .before .before .before .before .before .before .before .read-payload3 .ensures) (c .before .before .before .before .before .before .before .before .before .before .before .before .before .before .before .before .before .before .compile-args2 .ensures) (c .before .before .before .before .before .before .before .index-node .ensures)
+compile-expr-returns-9 t c = at-index _ _ _ _ _ _ _ _ (c .before .before .before .before .before .before .before .before .before .before .before .before .before .before .before .before .before .before .before .before .before .before .before .before .before .before .before .opt-range-at2 .result) _ _ _ _ _ _ _ _ (head _ _ _ _ _ _ _ (c .before .before .before .before .before .before .before .before .before .before .before .before .before .before .before .before .before .before .before .before .before .before .before .before .before .before .before .before .before .before .before .before .before .before .before .before .before .before .if1 .left) (c .before .before .before .before .before .before .before .before .before .before .before .before .before .before .before .before .before .before .before .before .before .before .before .before .before .before .before .before .before .before .before .before .before .before .before .before .payload-at .ensures) (c .before .before .before .before .before .before .before .before .before .before .before .before .before .before .before .before .before .before .before .before .before .before .before .before .before .before .before .before .before .before .before .before .before .before .node-range .ensures) (c .before .before .before .before .before .before .before .before .before .before .before .before .before .before .before .before .before .before .before .before .before .before .before .before .before .before .before .before .before .before .before .behind .ensures) (c .before .before .before .before .before .before .before .before .before .before .before .before .before .before .before .before .before .before .before .before .before .before .before .before .before .before .before .before .before .before .behind2 .ensures)) (c .before .before .before .before .before .before .before .before .before .before .before .before .before .before .before .before .before .before .before .before .before .before .before .before .before .before .before .before .before .match .keys8) (c .before .before .before .before .before .before .before .before .before .before .before .before .before .before .before .before .before .before .before .before .before .before .before .before .before .before .before .opt-range-at2 .ensures) (c .before .before .before .before .before .before .before .before .before .before .before .before .before .before .before .before .before .before .before .before .before .before .before .before .behind6 .ensures) (c .before .before .before .before .before .before .before .before .before .before .before .before .before .before .before .before .before .before .before .before .before .before .before .read-payload3 .ensures) (c .before .before .before .before .before .before .before .before .before .before .before .before .before .before .before .before .before .before .compile-args2 .ensures) (c .before .before .before .before .before .before .index-node .ensures)
 
--- src/expr.rt:75:1
+-- src/expr.rt:69:1
 compile-expr-same-length-23 : (t : ℕ) → compile-expr-lts.Need-same-length-23 (
   payload-at-reads.Asked,
   payload-at-reads.Learnt,
@@ -3869,7 +3869,7 @@ compile-expr-same-length-23 : (t : ℕ) → compile-expr-lts.Need-same-length-23
 ) (compile-expr-at t) compile-expr.Post
 compile-expr-same-length-23 t c = search needs
 
--- src/expr.rt:75:1
+-- src/expr.rt:69:1
 compile-expr-returns-10 : (t : ℕ) → compile-expr-lts.Need-returns-10 (
   payload-at-reads.Asked,
   payload-at-reads.Learnt,
@@ -3914,9 +3914,9 @@ compile-expr-returns-10 : (t : ℕ) → compile-expr-lts.Need-returns-10 (
   emit-inkey-reads.Asked,
   emit-inkey-reads.Learnt,
 ) (compile-expr-at t) compile-expr.Post
-compile-expr-returns-10 t c = at-inkey _ _ _ _ _ _ _ _ _ _ (head _ _ _ _ _ _ _ (c .before .before .before .before .before .before .before .before .before .if1 .left) (c .before .before .before .before .before .before .before .before .payload-at .ensures) (c .before .before .before .before .before .before .before .node-range .ensures) (c .before .before .before .before .before .before .behind .ensures) (c .before .before .before .before .before .behind2 .ensures)) (c .before .before .before .before .match .keys9) (put-at _ _ _ _ _ _ _ _ _ _ _ (c .before .before .emit-inkey .ensures))
+compile-expr-returns-10 t c = at-inkey _ _ _ _ _ _ _ _ _ _ (head _ _ _ _ _ _ _ (c .before .before .before .before .before .before .before .before .before .before .before .before .before .before .if1 .left) (c .before .before .before .before .before .before .before .before .before .before .before .before .payload-at .ensures) (c .before .before .before .before .before .before .before .before .before .before .node-range .ensures) (c .before .before .before .before .before .before .before .behind .ensures) (c .before .before .before .before .before .before .behind2 .ensures)) (c .before .before .before .before .before .match .keys9) (put-at _ _ _ _ _ _ _ _ _ _ _ (c .before .before .emit-inkey .ensures))
 
--- src/expr.rt:75:1
+-- src/expr.rt:69:1
 compile-expr-returns-11 : (t : ℕ) → compile-expr-lts.Need-returns-11 (
   payload-at-reads.Asked,
   payload-at-reads.Learnt,
@@ -3961,7 +3961,7 @@ compile-expr-returns-11 : (t : ℕ) → compile-expr-lts.Need-returns-11 (
   emit-inkey-reads.Asked,
   emit-inkey-reads.Learnt,
 ) (compile-expr-at t) compile-expr.Post
-compile-expr-returns-11 t c = let q = (c .match .rest) in at-other _ _ _ _ _ _ _ _ _ (head _ _ _ _ _ _ _ (c .before .before .before .before .before .if1 .left) (c .before .before .before .before .payload-at .ensures) (c .before .before .before .node-range .ensures) (c .before .before .behind .ensures) (c .before .behind2 .ensures)) (q .0 .0 .0 .0 .0 .0 .0 .0 .1) (q .0 .0 .0 .0 .0 .0 .0 .1) (q .0 .0 .0 .0 .0 .0 .1) (q .0 .0 .0 .0 .0 .1) (q .0 .0 .0 .0 .1) (q .0 .0 .0 .1) (q .0 .0 .1) (q .0 .1) (q .1)
+compile-expr-returns-11 t c = let q = (c .match .rest) in at-other _ _ _ _ _ _ _ _ _ (head _ _ _ _ _ _ _ (c .before .before .before .before .before .before .before .before .before .if1 .left) (c .before .before .before .before .before .before .before .payload-at .ensures) (c .before .before .before .before .before .node-range .ensures) (c .before .before .behind .ensures) (c .before .behind2 .ensures)) (q .0 .0 .0 .0 .0 .0 .0 .0 .1) (q .0 .0 .0 .0 .0 .0 .0 .1) (q .0 .0 .0 .0 .0 .0 .1) (q .0 .0 .0 .0 .0 .1) (q .0 .0 .0 .0 .1) (q .0 .0 .0 .1) (q .0 .0 .1) (q .0 .1) (q .1)
 
 pub +compile-args+compile-expr-spec : {M : Type 1} → statement M
 +compile-args+compile-expr-spec = close μ-compile-args μ-compile-expr (λ t. compile-args-lts.spec (

@@ -9,33 +9,33 @@ use Rattle.expressions.proofs.expr.compile_expr.Reads as compile-expr-r
 use Rattle.expressions.proofs.expr.node_range.Reads as node-range-reads
 use Rattle.nodes.proofs.node.check_type.Reads as check-type-reads
 
--- src/expr.rt:293:9
+-- src/expr.rt:246:9
 compile-expr-requires : tie.Need-compile-expr-requires
 compile-expr-requires c κs = search needs
 
--- src/expr.rt:296:9
+-- src/expr.rt:248:9
 node-range-requires : tie.Need-node-range-requires
 node-range-requires c κs = search needs
 
--- src/expr.rt:297:9
+-- src/expr.rt:249:5
 check-type-requires : tie.Need-check-type-requires
 check-type-requires c κs = search needs
 
--- src/expr.rt:279:1
+-- src/expr.rt:232:1
 same-length : tie.Need-same-length
 same-length c = search needs
 
--- src/expr.rt:279:1
+-- src/expr.rt:232:1
 same-length-2 : tie.Need-same-length-2
 same-length-2 c = search needs
 
--- src/expr.rt:279:1
+-- src/expr.rt:232:1
 same-length-3 : tie.Need-same-length-3
 same-length-3 c = search needs
 
--- src/expr.rt:279:1
+-- src/expr.rt:232:1
 returns : tie.Need-returns
-returns c = typed-of _ _ _ _ _ _ _ _ _ _ _ _ (c .before .before .before .before .before .before .before .before .before .before .before .before .compile-expr .ensures) (c .before .before .before .before .node-range .ensures) ((c .before .before .check-type .ensures) _ _ _ _)
+returns c = typed-of _ _ _ _ _ _ _ _ _ _ _ _ (c .before .before .before .before .before .before .before .before .before .before .before .before .before .compile-expr .ensures) (c .before .before .before .before .before .node-range .ensures) ((c .before .before .check-type .ensures) _ _ _ _)
 
 pub compile-typed-spec : {M : Type 1} → statement M
 compile-typed-spec =

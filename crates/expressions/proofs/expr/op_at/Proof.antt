@@ -7,23 +7,23 @@ use Rattle.recorder.proofs.word.behind.Reads as behind-reads
 use Rattle.recorder.proofs.word.payload_at.Reads as payload-at-reads
 use Rattle.recorder.proofs.word.range_at.Reads as range-at-reads
 
--- src/expr.rt:48:9
+-- src/expr.rt:42:9
 behind-requires : tie.Need-behind-requires
 behind-requires c κs = search needs
 
--- src/expr.rt:49:9
+-- src/expr.rt:43:9
 range-at-requires : tie.Need-range-at-requires
 range-at-requires c κs = search needs
 
--- src/expr.rt:52:15
+-- src/expr.rt:46:15
 payload-at-requires : tie.Need-payload-at-requires
 payload-at-requires c κs = search needs
 
--- src/expr.rt:53:13
+-- src/expr.rt:47:13
 behind-requires-2 : tie.Need-behind-requires-2
 behind-requires-2 c κs = search needs
 
--- src/expr.rt:45:1
+-- src/expr.rt:39:1
 returns : tie.Need-returns
 returns c = record { range = (c .before .before .range-at .ensures); kind = rw ((c .before .payload-at .ensures), (c .before .before .before .behind .ensures)); place = rw ((c .behind2 .ensures), (c .before .before .before .behind .ensures)) }
 

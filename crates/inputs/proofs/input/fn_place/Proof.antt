@@ -7,31 +7,30 @@ use Rattle.inputs.proofs.input.fn_place.Reads as reads
 use Rattle.inputs.proofs.input.fn_place.Lts as lts
 use Rattle.recorder.proofs.codegen.emit_fn_lvalue.Reads as emit-fn-lvalue-reads
 
--- src/input.rt:59:16
+-- src/input.rt:55:16
 enum-told : tie.Need-enum-told
 enum-told c = search needs
 
--- src/input.rt:60:17
+-- src/input.rt:56:17
 emit-fn-lvalue-requires : tie.Need-emit-fn-lvalue-requires
 emit-fn-lvalue-requires c κs = search needs
 
--- src/input.rt:65:29
 enum-told-2 : tie.Need-enum-told-2
 enum-told-2 c = search needs
 
--- src/input.rt:54:1
+-- src/input.rt:50:1
 same-length : tie.Need-same-length
 same-length c = search needs
 
--- src/input.rt:54:1
+-- src/input.rt:50:1
 returns : tie.Need-returns
-returns c = λ t k b base. fn-stored t base _ _ _ _ _ _ _ _ (c .before .before .before .before .before .enum-told .given .1) (c .before .before .before .before .if1 .taken) (put-at _ _ _ _ _ _ _ _ _ _ _ (c .before .before .emit-fn-lvalue .ensures))
+returns c = λ t k b base. fn-stored t base _ _ _ _ _ _ _ _ (c .before .before .before .before .before .before .enum-told .given .1) (c .before .before .before .before .before .if1 .taken) (put-at _ _ _ _ _ _ _ _ _ _ _ (c .before .before .emit-fn-lvalue .ensures))
 
--- src/input.rt:54:1
+-- src/input.rt:50:1
 returns-2 : tie.Need-returns-2
 returns-2 c = λ t k b base. fn-argless t base _ _ _ _ _ _ _ (c .before .enum-told .given .1) (c .if1 .left)
 
--- src/input.rt:54:1
+-- src/input.rt:50:1
 returns-3 : tie.Need-returns-3
 returns-3 c = λ t k b base. fn-nameless t base _ _ _ _ _ _ (c .enum-told2 .given .1)
 

@@ -17,31 +17,31 @@ Inv-loop sheet at n p₀ more₀ p more = skipRepeat sheet (twoOn sheet) more p 
 abbrev μ-loop : tie.MeasureT-loop
 μ-loop sheet at n p₀ more₀ p more = more
 
--- src/jump.rt:175:5
+-- src/jump.rt:166:5
 loop-holds : tie.Need-loop-holds Inv-loop μ-loop
 loop-holds c = refl
 
--- src/jump.rt:176:13
+-- src/jump.rt:167:13
 behind-requires : tie.Need-behind-requires Inv-loop μ-loop
 behind-requires c κs = search needs
 
--- src/jump.rt:177:9
+-- src/jump.rt:168:9
 behind-requires-2 : tie.Need-behind-requires-2 Inv-loop μ-loop
 behind-requires-2 c κs = search needs
 
--- src/jump.rt:178:9
+-- src/jump.rt:169:9
 sub-more : tie.Need-sub-more Inv-loop μ-loop
 sub-more c = omega arith
 
--- src/jump.rt:175:5
+-- src/jump.rt:166:5
 loop-less : tie.Need-loop-less Inv-loop μ-loop
 loop-less c = omega arith
 
--- src/jump.rt:175:5
+-- src/jump.rt:166:5
 loop-again : tie.Need-loop-again Inv-loop μ-loop
 loop-again c = step-two (c .before .before .before .before .before .args .sheet .now) (c .before .before .before .loop .more) (c .before .before .before .loop .p) _ _ (c .before .before .loop-test .taken) (c .before .behind .ensures) (c .behind2 .ensures) ∙ (c .before .before .before .loop .inv)
 
--- src/jump.rt:170:1
+-- src/jump.rt:161:1
 returns : tie.Need-returns Inv-loop μ-loop
 returns c = over-done (c .before .before .before .args .sheet .now) (c .before .loop .more) _ _ _ (c .loop-test .left) (c .before .loop .inv)
 

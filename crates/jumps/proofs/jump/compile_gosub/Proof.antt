@@ -12,11 +12,11 @@ use Rattle.jumps.proofs.jump.target_at.Reads as target-at-reads
 target-at-requires : tie.Need-target-at-requires
 target-at-requires c κs = search needs
 
--- src/jump.rt:100:9
+-- src/jump.rt:100:5
 compile-go-requires : tie.Need-compile-go-requires
 compile-go-requires c κs = search needs
 
--- src/jump.rt:103:13
+-- src/jump.rt:101:5
 behind-target-requires : tie.Need-behind-target-requires
 behind-target-requires c κs = search needs
 
@@ -26,7 +26,7 @@ same-length c = search needs
 
 -- src/jump.rt:96:1
 returns : tie.Need-returns
-returns c = λ t n b base left k. gosub-of (c .before .before .before .before .before .before .before .before .args .sheet .now) t base left k _ _ _ (c .before .before .before .before .before .target-at .result) _ _ (c .before .before .before .before .before .target-at .ensures) ((c .before .before .before .compile-go .ensures) t n b base) (c .behind-target .ensures)
+returns c = λ t n b base left k. gosub-of (c .before .before .before .before .before .before .before .before .before .before .args .sheet .now .now) t base left k _ _ _ (c .before .before .before .before .before .before .before .target-at .result) _ _ (c .before .before .before .before .before .before .before .target-at .ensures) ((c .before .before .before .before .compile-go .ensures) t n b base) (c .behind-target .ensures)
 
 pub compile-gosub-spec : {M : Type 1} → statement M
 compile-gosub-spec =

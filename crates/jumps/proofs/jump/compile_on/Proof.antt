@@ -14,49 +14,49 @@ use Rattle.recorder.proofs.codegen.emit_on.Reads as emit-on-reads
 use Rattle.recorder.proofs.word.behind.Reads as behind-reads
 use Rattle.recorder.proofs.word.payload_at.Reads as payload-at-reads
 
--- src/jump.rt:198:9
+-- src/jump.rt:189:9
 compile-typed-requires : tie.Need-compile-typed-requires
 compile-typed-requires c κs = search needs
 
--- src/jump.rt:211:9
+-- src/jump.rt:201:9
 read-payload-requires : tie.Need-read-payload-requires
 read-payload-requires c κs = search needs
 
--- src/jump.rt:212:9
+-- src/jump.rt:202:9
 behind-targets-requires : tie.Need-behind-targets-requires
 behind-targets-requires c κs = search needs
 
--- src/jump.rt:213:9
+-- src/jump.rt:203:9
 payload-at-requires : tie.Need-payload-at-requires
 payload-at-requires c κs = search needs
 
--- src/jump.rt:214:9
+-- src/jump.rt:204:5
 emit-on-requires : tie.Need-emit-on-requires
 emit-on-requires c κs = search needs
 
--- src/jump.rt:215:9
+-- src/jump.rt:205:5
 on-jumps-requires : tie.Need-on-jumps-requires
 on-jumps-requires c κs = search needs
 
--- src/jump.rt:218:13
+-- src/jump.rt:206:5
 behind-requires : tie.Need-behind-requires
 behind-requires c κs = search needs
 
--- src/jump.rt:184:1
+-- src/jump.rt:175:1
 same-length : tie.Need-same-length
-same-length c = (c .before .before .before .on-jumps .kept .1 .0) ∙ (c .before .before .before .before .before .before .before .emit-on .kept .0) ∙ (c .before .before .before .before .before .before .before .before .before .before .before .before .before .before .before .before .before .before .before .compile-typed .kept .1 .1 .0)
+same-length c = (c .before .before .before .before .on-jumps .kept .1 .0) ∙ (c .before .before .before .before .before .before .before .before .before .emit-on .kept .0) ∙ (c .before .before .before .before .before .before .before .before .before .before .before .before .before .before .before .before .before .before .before .before .before .before .before .before .compile-typed .kept .1 .1 .0)
 
--- src/jump.rt:184:1
+-- src/jump.rt:175:1
 same-length-2 : tie.Need-same-length-2
-same-length-2 c = (c .before .before .before .before .before .before .before .before .before .before .before .before .before .before .before .before .before .before .before .compile-typed .kept .1 .1 .1 .0)
+same-length-2 c = (c .before .before .before .before .before .before .before .before .before .before .before .before .before .before .before .before .before .before .before .before .before .before .before .before .compile-typed .kept .1 .1 .1 .0)
 
--- src/jump.rt:184:1
+-- src/jump.rt:175:1
 same-length-3 : tie.Need-same-length-3
-same-length-3 c = (c .before .before .before .before .before .before .before .before .before .before .before .before .before .before .before .before .before .before .before .compile-typed .kept .1 .1 .1 .1 .0)
+same-length-3 c = (c .before .before .before .before .before .before .before .before .before .before .before .before .before .before .before .before .before .before .before .before .before .before .before .before .compile-typed .kept .1 .1 .1 .1 .0)
 
--- src/jump.rt:184:1
+-- src/jump.rt:175:1
 returns : tie.Need-returns
-returns c = λ k. on-of _ _ _ _ _ _ _ _ _ _ _ _ _ _ _ _ _ (c .before .before .before .before .before .before .before .before .before .before .before .before .before .before .before .before .before .before .before .compile-typed .ensures) (c .before .before .before .before .before .before .before .before .before .before .before .read-payload .ensures) (c .before .before .before .before .before .before .before .before .before .before .behind-targets .ensures) (c .before .before .before .before .before .before .before .before .before .payload-at .ensures) (put-at _ _ _ _ _ _ _ _ _ _ _ (c .before .before .before .before .before .before .before .emit-on .ensures)) ((c .before .before .before .on-jumps .ensures) _ _ _ _) (c .behind .ensures)
+returns c = λ k. on-of _ _ _ _ _ _ _ _ _ _ _ _ _ _ _ _ _ (c .before .before .before .before .before .before .before .before .before .before .before .before .before .before .before .before .before .before .before .before .before .before .before .before .compile-typed .ensures) (c .before .before .before .before .before .before .before .before .before .before .before .before .before .before .before .before .read-payload .ensures) (c .before .before .before .before .before .before .before .before .before .before .before .before .before .before .behind-targets .ensures) (c .before .before .before .before .before .before .before .before .before .before .before .before .payload-at .ensures) (put-at _ _ _ _ _ _ _ _ _ _ _ (c .before .before .before .before .before .before .before .before .before .emit-on .ensures)) ((c .before .before .before .before .on-jumps .ensures) _ _ _ _) (c .behind .ensures)
 
 pub compile-on-spec : {M : Type 1} → statement M
 compile-on-spec =

@@ -8,37 +8,37 @@ use Rattle.expressions.proofs.expr.compile_typed.Reads as compile-typed-reads
 use Rattle.recorder.proofs.word.behind.Reads as behind-reads
 use Rattle.sheet.proofs.leaf.is_absent.Reads as is-absent-reads
 
--- src/for_loop.rt:41:8
+-- src/for_loop.rt:39:8
 is-absent-requires : tie.Need-is-absent-requires
 is-absent-requires c κs = search needs
 
--- src/for_loop.rt:42:13
+-- src/for_loop.rt:40:13
 behind-requires : tie.Need-behind-requires
 behind-requires c κs = search needs
 
--- src/for_loop.rt:45:13
+-- src/for_loop.rt:43:13
 compile-typed-requires : tie.Need-compile-typed-requires
 compile-typed-requires c κs = search needs
 
--- src/for_loop.rt:28:1
+-- src/for_loop.rt:26:1
 returns : tie.Need-returns
-returns c = step-absent _ _ _ _ _ _ _ _ (c .before .before .is-absent .ensures) (c .before .if1 .taken) (c .behind .ensures)
+returns c = step-absent _ _ _ _ _ _ _ _ (c .before .before .before .is-absent .ensures) (c .before .before .if1 .taken) (c .behind .ensures)
 
--- src/for_loop.rt:28:1
+-- src/for_loop.rt:26:1
 same-length : tie.Need-same-length
 same-length c = search needs
 
--- src/for_loop.rt:28:1
+-- src/for_loop.rt:26:1
 same-length-2 : tie.Need-same-length-2
 same-length-2 c = search needs
 
--- src/for_loop.rt:28:1
+-- src/for_loop.rt:26:1
 same-length-3 : tie.Need-same-length-3
 same-length-3 c = search needs
 
--- src/for_loop.rt:28:1
+-- src/for_loop.rt:26:1
 returns-2 : tie.Need-returns-2
-returns-2 c = step-given _ _ _ _ _ _ _ _ _ (c .before .before .before .before .before .before .before .before .before .before .before .before .is-absent .ensures) (c .before .before .before .before .before .before .before .before .before .before .before .if1 .left) (c .before .before .before .before .before .before .before .compile-typed .ensures)
+returns-2 c = step-given _ _ _ _ _ _ _ _ _ (c .before .before .before .before .before .before .before .before .before .before .before .before .is-absent .ensures) (c .before .before .before .before .before .before .before .before .before .before .before .if1 .left) (c .before .before .before .before .before .before .compile-typed .ensures)
 
 pub compile-step-spec : {M : Type 1} → statement M
 compile-step-spec =

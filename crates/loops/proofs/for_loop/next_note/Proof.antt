@@ -8,25 +8,25 @@ use Rattle.loops.proofs.for_loop.next_note.Lts as lts
 use Rattle.recorder.proofs.codegen.note.Reads as note-reads
 use Rattle.rules.proofs.types.matches.Reads as matches-reads
 
--- src/for_loop.rt:130:8
+-- src/for_loop.rt:119:8
 matches-requires : tie.Need-matches-requires
 matches-requires c κs = search needs
 
--- src/for_loop.rt:133:9
-note-requires : tie.Need-note-requires
-note-requires c κs = search needs
-
--- src/for_loop.rt:127:1
+-- src/for_loop.rt:120:9
 returns : tie.Need-returns
 returns c = λ t l b. next-fits (c .before .before .before .args .ty) (c .before .before .before .args .v) _ _ (c .before .matches .ensures) (c .if1 .taken) t
 
--- src/for_loop.rt:127:1
+-- src/for_loop.rt:122:5
+note-requires : tie.Need-note-requires
+note-requires c κs = search needs
+
+-- src/for_loop.rt:116:1
 same-length : tie.Need-same-length
 same-length c = search needs
 
--- src/for_loop.rt:127:1
+-- src/for_loop.rt:116:1
 returns-2 : tie.Need-returns-2
-returns-2 c = λ t l b. next-noted (c .before .before .before .before .before .before .before .args .ty) (c .before .before .before .before .before .before .before .args .v) _ _ _ t (c .before .before .before .before .before .matches .ensures) (c .before .before .before .before .if1 .left) (note-at _ _ _ _ _ _ _ _ _ (c .before .before .note .ensures))
+returns-2 c = λ t l b. next-noted (c .before .before .before .before .before .before .before .before .args .ty) (c .before .before .before .before .before .before .before .before .args .v) _ _ _ t (c .before .before .before .before .before .before .matches .ensures) (c .before .before .before .before .before .if1 .left) (note-at _ _ _ _ _ _ _ _ _ (c .before .before .note .ensures))
 
 pub next-note-spec : {M : Type 1} → statement M
-next-note-spec = tie.close (tie.spec matches-requires note-requires returns same-length returns-2)
+next-note-spec = tie.close (tie.spec matches-requires returns note-requires same-length returns-2)

@@ -4,11 +4,11 @@ use Rattle.loops.proofs.for_loop.next_range.Tie as tie
 use Rattle.loops.proofs.for_loop.next_range.Reads as reads
 use Rattle.loops.proofs.for_loop.next_range.Lts as lts
 
--- src/for_loop.rt:137:1
+-- src/for_loop.rt:125:1
 returns : tie.Need-returns
 returns c = rw (c .if1 .taken)
 
--- src/for_loop.rt:137:1
+-- src/for_loop.rt:125:1
 returns-2 : tie.Need-returns-2
 returns-2 c = simp (ne-eqb _ _ (c .if1 .left))
 

@@ -9,43 +9,43 @@ use Rattle.rules.proofs.tables.max_args.Reads as max-args-reads
 use Rattle.rules.proofs.tables.min_args.Reads as min-args-reads
 use Rattle.rules.proofs.tables.sig_of.Reads as sig-of-reads
 
--- src/node.rt:252:9
+-- src/node.rt:228:9
 sig-of-requires : tie.Need-sig-of-requires
 sig-of-requires c κs = search needs
 
--- src/node.rt:253:12
+-- src/node.rt:229:12
 min-args-requires : tie.Need-min-args-requires
 min-args-requires c κs = search needs
 
--- src/node.rt:254:9
+-- src/node.rt:230:9
 note-requires : tie.Need-note-requires
 note-requires c κs = search needs
 
--- src/node.rt:254:9
+-- src/node.rt:231:9
 same-length : tie.Need-same-length
 same-length c = search needs
 
--- src/node.rt:254:9
+-- src/node.rt:231:9
 returns : tie.Need-returns
-returns c = λ t l b base. too-few _ _ _ _ _ _ (c .before .before .before .before .before .before .sig-of .result) _ _ (c .before .before .before .before .before .before .sig-of .ensures) (c .before .before .before .before .before .min-args .ensures) (c .before .before .before .before .if1 .taken) (note-at _ _ _ _ _ _ _ _ _ (c .before .before .note .ensures))
+returns c = λ t l b base. too-few _ _ _ _ _ _ (c .before .before .before .before .before .before .before .sig-of .result) _ _ (c .before .before .before .before .before .before .before .sig-of .ensures) (c .before .before .before .before .before .before .min-args .ensures) (c .before .before .before .before .before .if1 .taken) (note-at _ _ _ _ _ _ _ _ _ (c .before .before .note .ensures))
 
--- src/node.rt:256:8
+-- src/node.rt:233:8
 max-args-requires : tie.Need-max-args-requires
 max-args-requires c κs = search needs
 
--- src/node.rt:257:9
+-- src/node.rt:234:9
 note-requires-2 : tie.Need-note-requires-2
 note-requires-2 c κs = search needs
 
--- src/node.rt:257:9
+-- src/node.rt:235:9
 same-length-2 : tie.Need-same-length-2
 same-length-2 c = search needs
 
--- src/node.rt:257:9
+-- src/node.rt:235:9
 returns-2 : tie.Need-returns-2
-returns-2 c = λ t l b base. too-many _ _ _ _ _ _ _ (c .before .before .before .before .before .before .before .before .sig-of .result) _ _ (c .before .before .before .before .before .before .before .before .sig-of .ensures) (c .before .before .before .before .before .before .before .min-args .ensures) (c .before .before .before .before .before .before .if1 .left) (c .before .before .before .before .before .max-args .ensures) (c .before .before .before .before .if2 .taken) (note-at _ _ _ _ _ _ _ _ _ (c .before .before .note2 .ensures))
+returns-2 c = λ t l b base. too-many _ _ _ _ _ _ _ (c .before .before .before .before .before .before .before .before .before .sig-of .result) _ _ (c .before .before .before .before .before .before .before .before .before .sig-of .ensures) (c .before .before .before .before .before .before .before .before .min-args .ensures) (c .before .before .before .before .before .before .before .if1 .left) (c .before .before .before .before .before .before .max-args .ensures) (c .before .before .before .before .before .if2 .taken) (note-at _ _ _ _ _ _ _ _ _ (c .before .before .note2 .ensures))
 
--- src/node.rt:249:1
+-- src/node.rt:225:1
 returns-3 : tie.Need-returns-3
 returns-3 c = λ t l b base. just-right _ _ _ _ _ _ _ (c .before .before .before .before .sig-of .result) _ (c .before .before .before .before .sig-of .ensures) (c .before .before .before .min-args .ensures) (c .before .before .if1 .left) (c .before .max-args .ensures) (c .if2 .left)
 

@@ -8,23 +8,23 @@ use Rattle.recorder.proofs.codegen.emit_sys_func_call.Reads as emit-sys-func-ca
 use Rattle.rules.proofs.tables.result_type.Reads as result-type-reads
 use Rattle.rules.proofs.tables.sig_of.Reads as sig-of-reads
 
--- src/node.rt:274:9
+-- src/node.rt:251:5
 emit-sys-func-call-requires : tie.Need-emit-sys-func-call-requires
 emit-sys-func-call-requires c κs = search needs
 
--- src/node.rt:275:41
+-- src/node.rt:252:41
 sig-of-requires : tie.Need-sig-of-requires
 sig-of-requires c κs = search needs
 
--- src/node.rt:275:9
+-- src/node.rt:252:9
 result-type-requires : tie.Need-result-type-requires
 result-type-requires c κs = search needs
 
--- src/node.rt:271:1
+-- src/node.rt:248:1
 same-length : tie.Need-same-length
 same-length c = search needs
 
--- src/node.rt:271:1
+-- src/node.rt:248:1
 returns : tie.Need-returns
 returns c = λ t o b base. func-called _ _ _ _ _ (c .before .sig-of .result) _ _ _ (put-at _ _ _ _ _ _ _ _ _ _ _ (c .before .before .before .before .emit-sys-func-call .ensures)) (c .before .sig-of .ensures) (c .result-type .ensures)
 

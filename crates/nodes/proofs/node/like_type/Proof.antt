@@ -6,15 +6,15 @@ use Rattle.nodes.proofs.node.like_type.Reads as reads
 use Rattle.nodes.proofs.node.like_type.Lts as lts
 use Rattle.rules.proofs.types.as_rvalue_type.Reads as as-rvalue-type-reads
 
--- src/node.rt:293:9
+-- src/node.rt:270:9
 as-rvalue-type-requires : tie.Need-as-rvalue-type-requires
 as-rvalue-type-requires c κs = search needs
 
--- src/node.rt:289:1
+-- src/node.rt:266:1
 returns : tie.Need-returns
 returns c = rw ((c .before .if1 .taken), (c .as-rvalue-type .ensures))
 
--- src/node.rt:289:1
+-- src/node.rt:266:1
 returns-2 : tie.Need-returns-2
 returns-2 c = simp (ne-eqb _ _ (c .if1 .left))
 

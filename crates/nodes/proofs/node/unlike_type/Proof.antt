@@ -4,11 +4,11 @@ use Rattle.nodes.proofs.node.unlike_type.Tie as tie
 use Rattle.nodes.proofs.node.unlike_type.Reads as reads
 use Rattle.nodes.proofs.node.unlike_type.Lts as lts
 
--- src/node.rt:299:1
+-- src/node.rt:276:1
 returns : tie.Need-returns
 returns c = rw (c .if1 .taken)
 
--- src/node.rt:299:1
+-- src/node.rt:276:1
 returns-2 : tie.Need-returns-2
 returns-2 c = simp (ne-eqb _ _ (c .if1 .left))
 

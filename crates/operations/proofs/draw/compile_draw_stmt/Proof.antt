@@ -17,7 +17,7 @@ read-payload-requires c κs = search needs
 compile-args-requires : tie.Need-compile-args-requires
 compile-args-requires c κs = search needs
 
--- src/draw.rt:71:9
+-- src/draw.rt:70:5
 draw-node-requires : tie.Need-draw-node-requires
 draw-node-requires c κs = search needs
 
@@ -35,7 +35,7 @@ same-length-3 c = (c .before .before .before .before .before .before .before .be
 
 -- src/draw.rt:41:1
 returns : tie.Need-returns
-returns c = draw-of _ _ _ _ _ _ _ _ _ _ _ _ _ (c .before .before .before .before .before .before .before .before .before .before .before .before .before .before .before .before .before .before .read-payload .ensures) (c .before .before .before .before .before .before .before .before .before .before .before .before .before .before .compile-args .ensures) ((c .before .before .before .before .draw-node .ensures) _ _ _)
+returns c = draw-of _ _ _ _ _ _ _ _ _ _ _ _ _ (c .before .before .before .before .before .before .before .before .before .before .before .before .before .before .before .before .before .before .before .read-payload .ensures) (c .before .before .before .before .before .before .before .before .before .before .before .before .before .before .compile-args .ensures) ((c .before .before .before .before .draw-node .ensures) _ _ _)
 
 pub compile-draw-stmt-spec : {M : Type 1} → statement M
 compile-draw-stmt-spec =

@@ -8,27 +8,27 @@ use Rattle.operations.proofs.locate.compile_locate.Lts as lts
 use Rattle.operations.proofs.locate.locate_column.Reads as locate-column-reads
 use Rattle.operations.proofs.locate.locate_row.Reads as locate-row-reads
 
--- src/locate.rt:185:9
+-- src/locate.rt:91:9
 locate-row-requires : tie.Need-locate-row-requires
 locate-row-requires c κs = search needs
 
--- src/locate.rt:187:5
+-- src/locate.rt:92:5
 locate-column-requires : tie.Need-locate-column-requires
 locate-column-requires c κs = search needs
 
--- src/locate.rt:171:1
+-- src/locate.rt:77:1
 same-length : tie.Need-same-length
 same-length c = (c .before .before .before .before .before .before .locate-column .kept .1 .1 .0) ∙ (c .before .before .before .before .before .before .before .before .before .before .before .before .before .before .before .before .before .locate-row .kept .1 .1 .0)
 
--- src/locate.rt:171:1
+-- src/locate.rt:77:1
 same-length-2 : tie.Need-same-length-2
 same-length-2 c = (c .before .before .before .before .before .before .locate-column .kept .1 .1 .1 .0) ∙ (c .before .before .before .before .before .before .before .before .before .before .before .before .before .before .before .before .before .locate-row .kept .1 .1 .1 .0)
 
--- src/locate.rt:171:1
+-- src/locate.rt:77:1
 same-length-3 : tie.Need-same-length-3
 same-length-3 c = (c .before .before .before .before .before .before .locate-column .kept .1 .1 .1 .1 .0) ∙ (c .before .before .before .before .before .before .before .before .before .before .before .before .before .before .before .before .before .locate-row .kept .1 .1 .1 .1 .0)
 
--- src/locate.rt:171:1
+-- src/locate.rt:77:1
 returns : tie.Need-returns
 returns c = λ k. locate-of _ _ _ _ _ _ _ _ _ _ _ _ (c .before .before .before .before .before .before .before .before .before .before .before .before .before .before .before .before .before .locate-row .ensures) (c .before .before .before .before .before .before .locate-column .ensures)
 

@@ -12,45 +12,45 @@ use Rattle.recorder.proofs.codegen.emit_set_column.Reads as emit-set-column-rea
 use Rattle.recorder.proofs.word.behind.Reads as behind-reads
 use Rattle.sheet.proofs.leaf.is_absent.Reads as is-absent-reads
 
--- src/locate.rt:62:8
+-- src/locate.rt:57:8
 is-absent-requires : tie.Need-is-absent-requires
 is-absent-requires c κs = search needs
 
--- src/locate.rt:65:17
+-- src/locate.rt:58:9
 behind-requires : tie.Need-behind-requires
 behind-requires c κs = search needs
 
--- src/locate.rt:63:9
+-- src/locate.rt:58:9
 returns : tie.Need-returns
-returns c = located-absent _ _ _ _ _ _ _ _ _ (c .before .before .is-absent .ensures) (c .before .if1 .taken) (c .behind .ensures)
+returns c = located-absent _ _ _ _ _ _ _ _ _ (c .before .before .before .is-absent .ensures) (c .before .before .if1 .taken) (c .behind .ensures)
 
--- src/locate.rt:68:9
+-- src/locate.rt:60:9
 compile-typed-requires : tie.Need-compile-typed-requires
 compile-typed-requires c κs = search needs
 
--- src/locate.rt:81:9
+-- src/locate.rt:72:9
 node-range-requires : tie.Need-node-range-requires
 node-range-requires c κs = search needs
 
--- src/locate.rt:82:9
+-- src/locate.rt:73:5
 emit-set-column-requires : tie.Need-emit-set-column-requires
 emit-set-column-requires c κs = search needs
 
--- src/locate.rt:49:1
+-- src/locate.rt:44:1
 same-length : tie.Need-same-length
-same-length c = (c .before .before .emit-set-column .kept .0) ∙ (c .before .before .before .before .before .before .before .before .before .before .before .before .compile-typed .kept .1 .1 .0)
+same-length c = (c .before .before .emit-set-column .kept .0) ∙ (c .before .before .before .before .before .before .before .before .before .before .before .before .before .compile-typed .kept .1 .1 .0)
 
--- src/locate.rt:49:1
+-- src/locate.rt:44:1
 same-length-2 : tie.Need-same-length-2
-same-length-2 c = (c .before .before .before .before .before .before .before .before .before .before .before .before .compile-typed .kept .1 .1 .1 .0)
+same-length-2 c = (c .before .before .before .before .before .before .before .before .before .before .before .before .before .compile-typed .kept .1 .1 .1 .0)
 
--- src/locate.rt:49:1
+-- src/locate.rt:44:1
 same-length-3 : tie.Need-same-length-3
-same-length-3 c = (c .before .before .before .before .before .before .before .before .before .before .before .before .compile-typed .kept .1 .1 .1 .1 .0)
+same-length-3 c = (c .before .before .before .before .before .before .before .before .before .before .before .before .before .compile-typed .kept .1 .1 .1 .1 .0)
 
--- src/locate.rt:49:1
+-- src/locate.rt:44:1
 returns-2 : tie.Need-returns-2
-returns-2 c = located-given _ _ _ _ _ _ _ _ _ _ _ _ (c .before .before .before .before .before .before .before .before .before .before .before .before .before .before .before .before .before .is-absent .ensures) (c .before .before .before .before .before .before .before .before .before .before .before .before .before .before .before .before .if1 .left) (c .before .before .before .before .before .before .before .before .before .before .before .before .compile-typed .ensures) (c .before .before .before .before .node-range .ensures) (put-at _ _ _ _ _ _ _ _ _ _ _ (c .before .before .emit-set-column .ensures))
+returns-2 c = located-given _ _ _ _ _ _ _ _ _ _ _ _ (c .before .before .before .before .before .before .before .before .before .before .before .before .before .before .before .before .before .before .before .is-absent .ensures) (c .before .before .before .before .before .before .before .before .before .before .before .before .before .before .before .before .before .before .if1 .left) (c .before .before .before .before .before .before .before .before .before .before .before .before .before .compile-typed .ensures) (c .before .before .before .before .before .node-range .ensures) (put-at _ _ _ _ _ _ _ _ _ _ _ (c .before .before .emit-set-column .ensures))
 
 pub locate-column-spec : {M : Type 1} → statement M
 locate-column-spec =

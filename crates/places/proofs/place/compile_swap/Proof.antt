@@ -11,41 +11,41 @@ use Rattle.places.proofs.place.fits_note.Reads as fits-note-reads
 use Rattle.recorder.proofs.codegen.emit_op.Reads as emit-op-reads
 use Rattle.rules.proofs.types.exact_matches.Reads as exact-matches-reads
 
--- src/place.rt:85:9
+-- src/place.rt:81:9
 compile-lvalue-requires : tie.Need-compile-lvalue-requires
 compile-lvalue-requires c κs = search needs
 
--- src/place.rt:88:9
+-- src/place.rt:83:9
 compile-lvalue-requires-2 : tie.Need-compile-lvalue-requires-2
 compile-lvalue-requires-2 c κs = search needs
 
--- src/place.rt:91:9
+-- src/place.rt:85:9
 exact-matches-requires : tie.Need-exact-matches-requires
 exact-matches-requires c κs = search needs
 
--- src/place.rt:92:9
+-- src/place.rt:86:5
 fits-note-requires : tie.Need-fits-note-requires
 fits-note-requires c κs = search needs
 
--- src/place.rt:93:9
+-- src/place.rt:87:5
 emit-op-requires : tie.Need-emit-op-requires
 emit-op-requires c κs = search needs
 
--- src/place.rt:71:1
+-- src/place.rt:67:1
 same-length : tie.Need-same-length
-same-length c = (c .before .before .emit-op .kept .0) ∙ (c .before .before .before .before .before .before .before .before .before .before .before .before .before .before .before .before .compile-lvalue2 .kept .1 .1 .0) ∙ (c .before .before .before .before .before .before .before .before .before .before .before .before .before .before .before .before .before .before .before .before .before .before .before .before .before .before .before .compile-lvalue .kept .1 .1 .0)
+same-length c = (c .before .before .emit-op .kept .0) ∙ (c .before .before .before .before .before .before .before .before .before .before .before .before .before .before .before .before .before .compile-lvalue2 .kept .1 .1 .0) ∙ (c .before .before .before .before .before .before .before .before .before .before .before .before .before .before .before .before .before .before .before .before .before .before .before .before .before .before .before .before .compile-lvalue .kept .1 .1 .0)
 
--- src/place.rt:71:1
+-- src/place.rt:67:1
 same-length-2 : tie.Need-same-length-2
-same-length-2 c = (c .before .before .before .before .before .before .fits-note .kept .0) ∙ (c .before .before .before .before .before .before .before .before .before .before .before .before .before .before .before .before .compile-lvalue2 .kept .1 .1 .1 .0) ∙ (c .before .before .before .before .before .before .before .before .before .before .before .before .before .before .before .before .before .before .before .before .before .before .before .before .before .before .before .compile-lvalue .kept .1 .1 .1 .0)
+same-length-2 c = (c .before .before .before .before .before .before .before .fits-note .kept .0) ∙ (c .before .before .before .before .before .before .before .before .before .before .before .before .before .before .before .before .before .compile-lvalue2 .kept .1 .1 .1 .0) ∙ (c .before .before .before .before .before .before .before .before .before .before .before .before .before .before .before .before .before .before .before .before .before .before .before .before .before .before .before .before .compile-lvalue .kept .1 .1 .1 .0)
 
--- src/place.rt:71:1
+-- src/place.rt:67:1
 same-length-3 : tie.Need-same-length-3
-same-length-3 c = (c .before .before .before .before .before .before .before .before .before .before .before .before .before .before .before .before .compile-lvalue2 .kept .1 .1 .1 .1 .0) ∙ (c .before .before .before .before .before .before .before .before .before .before .before .before .before .before .before .before .before .before .before .before .before .before .before .before .before .before .before .compile-lvalue .kept .1 .1 .1 .1 .0)
+same-length-3 c = (c .before .before .before .before .before .before .before .before .before .before .before .before .before .before .before .before .before .compile-lvalue2 .kept .1 .1 .1 .1 .0) ∙ (c .before .before .before .before .before .before .before .before .before .before .before .before .before .before .before .before .before .before .before .before .before .before .before .before .before .before .before .before .compile-lvalue .kept .1 .1 .1 .1 .0)
 
--- src/place.rt:71:1
+-- src/place.rt:67:1
 returns : tie.Need-returns
-returns c = λ k. swap-of _ _ _ _ _ _ _ _ _ _ _ _ _ _ _ _ _ (c .before .before .before .before .before .before .before .before .before .before .before .before .before .before .before .before .before .before .before .before .before .before .before .before .before .before .before .compile-lvalue .ensures) (c .before .before .before .before .before .before .before .before .before .before .before .before .before .before .before .before .compile-lvalue2 .ensures) (c .before .before .before .before .before .before .before .before .exact-matches .ensures) ((c .before .before .before .before .before .before .fits-note .ensures) (c .before .before .before .before .before .before .before .before .before .before .before .before .before .before .before .before .before .before .before .before .before .before .before .before .before .before .before .before .before .before .before .before .before .before .before .before .args .text .now) _ _) (put-at _ _ _ _ _ _ _ _ _ _ _ (c .before .before .emit-op .ensures))
+returns c = λ k. swap-of _ _ _ _ _ _ _ _ _ _ _ _ _ _ _ _ _ (c .before .before .before .before .before .before .before .before .before .before .before .before .before .before .before .before .before .before .before .before .before .before .before .before .before .before .before .before .compile-lvalue .ensures) (c .before .before .before .before .before .before .before .before .before .before .before .before .before .before .before .before .before .compile-lvalue2 .ensures) (c .before .before .before .before .before .before .before .before .before .before .exact-matches .ensures) ((c .before .before .before .before .before .before .before .fits-note .ensures) (c .before .before .before .before .before .before .before .before .before .before .before .before .before .before .before .before .before .before .before .before .before .before .before .before .before .before .before .before .before .before .before .before .before .before .before .before .args .text .now .now) _ _) (put-at _ _ _ _ _ _ _ _ _ _ _ (c .before .before .emit-op .ensures))
 
 pub compile-swap-spec : {M : Type 1} → statement M
 compile-swap-spec =

@@ -6,37 +6,40 @@ use Rattle.recorder.proofs.codegen.child_of.Reads as reads
 use Rattle.recorder.proofs.codegen.child_of.Lts as lts
 use Rattle.recorder.proofs.codegen.is_high.Reads as is-high-reads
 use Rattle.recorder.proofs.codegen.link_of.Reads as link-of-reads
-use Rattle.recorder.proofs.word.word_at.Reads as word-at-reads
 
--- src/codegen.rt:549:17
+-- src/codegen.rt:408:17
 is-high-requires : tie.Need-is-high-requires
 is-high-requires c κs = search needs
 
--- src/codegen.rt:549:46
-mul-word-at : tie.Need-mul-word-at
-mul-word-at c = search needs
+-- src/codegen.rt:408:37
+mul-link-of : tie.Need-mul-link-of
+mul-link-of c = search needs
 
--- src/codegen.rt:549:46
-add-word-at : tie.Need-add-word-at
-add-word-at c = search needs
+-- src/codegen.rt:408:37
+add-link-of : tie.Need-add-link-of
+add-link-of c = search needs
 
--- src/codegen.rt:549:32
-word-at-requires : tie.Need-word-at-requires
-word-at-requires c κs = search needs
+-- src/codegen.rt:408:32
+mul-link-of-2 : tie.Need-mul-link-of-2
+mul-link-of-2 c = search needs
 
--- src/codegen.rt:549:9
+-- src/codegen.rt:408:32
+shared-slice-read-link-of : tie.Need-shared-slice-read-link-of
+shared-slice-read-link-of c = search needs
+
+-- src/codegen.rt:408:9
 link-of-requires : tie.Need-link-of-requires
 link-of-requires c κs = search needs
 
--- src/codegen.rt:549:9
+-- src/codegen.rt:408:9
 cast-result : tie.Need-cast-result
 cast-result c = search needs
 
--- src/codegen.rt:545:1
+-- src/codegen.rt:404:1
 returns : tie.Need-returns
-returns c = rw (lt-ltb _ _ (c .before .before .before .if1 .taken), (c .link-of .ensures), (c .before .word-at .ensures), (c .before .before .is-high .ensures))
+returns c = rw (lt-ltb _ _ (c .before .before .before .if1 .taken), (c .link-of .ensures), (c .before .before .is-high .ensures))
 
--- src/codegen.rt:545:1
+-- src/codegen.rt:404:1
 returns-2 : tie.Need-returns-2
 returns-2 c = simp (le-ltb _ _ (c .if1 .left))
 
@@ -45,9 +48,10 @@ child-of-spec =
     tie.close
     (tie.spec
     is-high-requires
-    mul-word-at
-    add-word-at
-    word-at-requires
+    mul-link-of
+    add-link-of
+    mul-link-of-2
+    shared-slice-read-link-of
     link-of-requires
     cast-result
     returns

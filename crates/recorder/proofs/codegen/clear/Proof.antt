@@ -16,35 +16,35 @@ Inv-loop s₀ i₀ s i = (i ≤ length s₀) × (length s ≡ length s₀) × (s
 abbrev μ-loop : tie.MeasureT-loop
 μ-loop s₀ i₀ s i = length s₀ - i
 
--- src/codegen.rt:925:5
+-- src/codegen.rt:789:5
 loop-holds : tie.Need-loop-holds Inv-loop μ-loop
 loop-holds c = (omega arith, refl, refl)
 
--- src/codegen.rt:926:9
+-- src/codegen.rt:790:9
 mul-s : tie.Need-mul-s Inv-loop μ-loop
 mul-s c = search needs
 
--- src/codegen.rt:926:9
+-- src/codegen.rt:790:9
 slice-write-s : tie.Need-slice-write-s Inv-loop μ-loop
 slice-write-s c = search needs
 
--- src/codegen.rt:927:9
+-- src/codegen.rt:791:9
 add-i : tie.Need-add-i Inv-loop μ-loop
 add-i c = omega arith
 
--- src/codegen.rt:925:5
+-- src/codegen.rt:789:5
 loop-less : tie.Need-loop-less Inv-loop μ-loop
 loop-less c = omega arith
 
--- src/codegen.rt:925:5
+-- src/codegen.rt:789:5
 loop-again : tie.Need-loop-again Inv-loop μ-loop
 loop-again c = clear-step _ _ _ (c .before .loop .inv) (c .loop-test .taken)
 
--- src/codegen.rt:921:1
+-- src/codegen.rt:785:1
 same-length : tie.Need-same-length Inv-loop μ-loop
 same-length c = (c .before .loop .inv .1)
 
--- src/codegen.rt:921:1
+-- src/codegen.rt:785:1
 returns : tie.Need-returns Inv-loop μ-loop
 returns c = clear-end _ _ _ (c .before .loop .inv) (c .loop-test .left)
 

@@ -17,39 +17,39 @@ Inv-loop text at first n p₀ h₀ left₀ p h left = hashOf text p h left ≡ h
 abbrev μ-loop : tie.MeasureT-loop
 μ-loop text at first n p₀ h₀ left₀ p h left = left
 
--- src/codegen.rt:442:5
+-- src/codegen.rt:301:5
 loop-holds : tie.Need-loop-holds Inv-loop μ-loop
 loop-holds c = refl
 
--- src/codegen.rt:443:45
+-- src/codegen.rt:302:45
 unit-at-requires : tie.Need-unit-at-requires Inv-loop μ-loop
 unit-at-requires c κs = search needs
 
--- src/codegen.rt:443:26
+-- src/codegen.rt:302:26
 to-ascii-uppercase-requires : tie.Need-to-ascii-uppercase-requires Inv-loop μ-loop
 to-ascii-uppercase-requires c κs = search needs
 
--- src/codegen.rt:443:9
+-- src/codegen.rt:302:9
 hash-step-requires : tie.Need-hash-step-requires Inv-loop μ-loop
 hash-step-requires c κs = search needs
 
--- src/codegen.rt:444:9
+-- src/codegen.rt:303:9
 behind-unit-requires : tie.Need-behind-unit-requires Inv-loop μ-loop
 behind-unit-requires c κs = search needs
 
--- src/codegen.rt:445:9
+-- src/codegen.rt:304:9
 sub-left : tie.Need-sub-left Inv-loop μ-loop
 sub-left c = search needs
 
--- src/codegen.rt:442:5
+-- src/codegen.rt:301:5
 loop-less : tie.Need-loop-less Inv-loop μ-loop
 loop-less c = search needs
 
--- src/codegen.rt:442:5
+-- src/codegen.rt:301:5
 loop-again : tie.Need-loop-again Inv-loop μ-loop
 loop-again c = hash-next _ _ _ _ _ _ _ _ _ (c .before .before .before .before .loop-test .taken) (c .before .before .before .before .before .loop .inv) (c .before .before .before .unit-at .ensures) (c .before .before .to-ascii-uppercase .ensures) (c .before .hash-step .ensures) (c .behind-unit .ensures)
 
--- src/codegen.rt:436:1
+-- src/codegen.rt:295:1
 returns : tie.Need-returns Inv-loop μ-loop
 returns c = hash-end _ _ _ _ _ (c .loop-test .left) (c .before .loop .inv)
 

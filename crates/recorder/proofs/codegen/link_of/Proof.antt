@@ -3,11 +3,11 @@ use Rattle.recorder.proofs.codegen.link_of.Tie as tie
 use Rattle.recorder.proofs.codegen.link_of.Reads as reads
 use Rattle.recorder.proofs.codegen.link_of.Lts as lts
 
--- src/codegen.rt:411:1
+-- src/codegen.rt:270:1
 returns : tie.Need-returns
 returns c = rw (c .if1 .taken)
 
--- src/codegen.rt:411:1
+-- src/codegen.rt:270:1
 returns-2 : tie.Need-returns-2
 returns-2 c = rw (c .if1 .left)
 

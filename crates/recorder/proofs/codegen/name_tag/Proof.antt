@@ -8,19 +8,19 @@ use Rattle.recorder.proofs.codegen.hash_of.Reads as hash-of-reads
 use Rattle.recorder.proofs.codegen.sigil_code.Reads as sigil-code-reads
 use Rattle.recorder.proofs.codegen.tag_of.Reads as tag-of-reads
 
--- src/codegen.rt:460:33
+-- src/codegen.rt:319:33
 sigil-code-requires : tie.Need-sigil-code-requires
 sigil-code-requires c κs = search needs
 
--- src/codegen.rt:460:12
+-- src/codegen.rt:319:12
 hash-of-requires : tie.Need-hash-of-requires
 hash-of-requires c κs = search needs
 
--- src/codegen.rt:460:5
+-- src/codegen.rt:319:5
 tag-of-requires : tie.Need-tag-of-requires
 tag-of-requires c κs = search needs
 
--- src/codegen.rt:457:1
+-- src/codegen.rt:316:1
 returns : tie.Need-returns
 returns c = tag-of-name _ _ _ _ (c .before .before .before .before .args .sigil) _ _ (c .before .before .sigil-code .ensures) (c .before .hash-of .ensures) (c .tag-of .ensures)
 

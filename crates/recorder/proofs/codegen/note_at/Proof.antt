@@ -8,25 +8,25 @@ use Rattle.recorder.proofs.codegen.put_note.Reads as put-note-reads
 use Rattle.recorder.proofs.word.range_word.Reads as range-word-reads
 use Rattle.recorder.proofs.word.word_of.Reads as word-of-reads
 
--- src/codegen.rt:339:9
+-- src/codegen.rt:199:9
 word-of-requires : tie.Need-word-of-requires
 word-of-requires c κs = search needs
 
--- src/codegen.rt:340:9
+-- src/codegen.rt:200:9
 range-word-requires : tie.Need-range-word-requires
 range-word-requires c κs = search needs
 
--- src/codegen.rt:341:5
+-- src/codegen.rt:201:5
 put-note-requires : tie.Need-put-note-requires
 put-note-requires c κs = search needs
 
--- src/codegen.rt:336:1
+-- src/codegen.rt:196:1
 same-length : tie.Need-same-length
 same-length c = search needs
 
--- src/codegen.rt:336:1
+-- src/codegen.rt:196:1
 returns : tie.Need-returns
-returns c = rw ((c .before .before .put-note .ensures .0), (c .before .before .put-note .ensures .1), (c .before .before .before .before .before .word-of .ensures), (c .before .before .before .before .range-word .ensures)) (refl, refl)
+returns c = rw ((c .before .before .put-note .ensures .0), (c .before .before .put-note .ensures .1), (c .before .before .before .before .before .before .word-of .ensures), (c .before .before .before .before .before .range-word .ensures)) (refl, refl)
 
 pub note-at-spec : {M : Type 1} → statement M
 note-at-spec =

@@ -6,16 +6,16 @@ use Rattle.recorder.proofs.codegen.one_more.Tie as tie
 use Rattle.recorder.proofs.codegen.one_more.Reads as reads
 use Rattle.recorder.proofs.codegen.one_more.Lts as lts
 
--- src/codegen.rt:274:19
+-- src/codegen.rt:136:19
 add-result : tie.Need-add-result
 add-result c = search needs
 
--- src/codegen.rt:271:1
+-- src/codegen.rt:133:1
 returns : tie.Need-returns
 unfolding more
 returns c = simp (lt-ltb _ _ (c .if1 .taken))
 
--- src/codegen.rt:271:1
+-- src/codegen.rt:133:1
 returns-2 : tie.Need-returns-2
 unfolding more
 returns-2 c = simp (le-ltb _ _ (c .if1 .left))

@@ -6,19 +6,19 @@ use Rattle.recorder.proofs.codegen.set_a.Tie as tie
 use Rattle.recorder.proofs.codegen.set_a.Reads as reads
 use Rattle.recorder.proofs.codegen.set_a.Lts as lts
 
--- src/codegen.rt:803:9
+-- src/codegen.rt:667:9
 slice-write-part : tie.Need-slice-write-part
 slice-write-part c = search needs
 
--- src/codegen.rt:799:1
+-- src/codegen.rt:663:1
 same-length : tie.Need-same-length
 same-length c = search needs
 
--- src/codegen.rt:799:1
+-- src/codegen.rt:663:1
 returns : tie.Need-returns
 returns c = search needs
 
--- src/codegen.rt:799:1
+-- src/codegen.rt:663:1
 returns-2 : tie.Need-returns-2
 returns-2 c = sym (set-out _ _ _ (c .if1 .left))
 

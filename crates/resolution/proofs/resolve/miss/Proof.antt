@@ -30,7 +30,7 @@ same-length-2 c = search needs
 
 -- src/resolve.rt:66:1
 returns : tie.Need-returns
-returns c = λ t b. missed t b _ _ _ _ _ _ _ _ _ (c .before .before .before .before .before .before .before .before .before .before .before .args .q) _ (c .before .before .before .before .before .before .before .drop-label .ensures) (c .before .before .before .before .unpacked .ensures) (c .before .before .note-at .ensures)
+returns c = λ t b. missed t b _ _ _ _ _ _ _ _ _ (c .before .before .before .before .before .before .before .before .before .before .before .before .before .args .q) _ (c .before .before .before .before .before .before .before .before .drop-label .ensures) (c .before .before .before .before .before .unpacked .ensures) (c .before .before .note-at .ensures)
 
 pub miss-spec : {M : Type 1} → statement M
 miss-spec =

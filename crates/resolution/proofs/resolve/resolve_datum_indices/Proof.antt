@@ -1,6 +1,6 @@
 use borrow.Author.Needs.{needs}
 use native.Mathlib.Omega.{arith}
-use mathlib.Core.Path.{_≡_, refl, _∙_}
+use mathlib.Core.Path.{_≡_, refl, ap, _∙_}
 use mathlib.Core.List.{List}
 use Prim.Native.Nat.{ℕ, _-_}
 use lib.ListN.{length}
@@ -14,58 +14,63 @@ use Rattle.resolution.proofs.resolve.resolve_datum_indices.Tie as tie
 use Rattle.resolution.proofs.resolve.resolve_datum_indices.Reads as reads
 use Rattle.resolution.proofs.resolve.resolve_datum_indices.Lts as lts
 use Rattle.closing.proofs.closing.call_of.Reads as call-of-reads
+use Rattle.recorder.proofs.codegen.current_addr.Reads as current-addr-reads
 use Rattle.resolution.proofs.resolve.settle_restore.Reads as settle-restore-reads
 
 abbrev Inv-loop : tie.InvT-loop
-Inv-loop list₀ notes₀ work n chains count s₀ k₀ list notes s k = (length list ≡ length list₀) × (length notes ≡ length notes₀)
-    × ((t b : List ℕ) (ms : List Mark) → Chained work n chains n ms → resolveDatumIndices (memR t) ms k (count - k) (mem list notes b s) ≡ resolveDatumIndices (memR t) ms 0 count (mem list₀ notes₀ b s₀))
+Inv-loop list₀ notes₀ work st₀ n chains count k₀ list notes st k = (length list ≡ length list₀) × (length notes ≡ length notes₀)
+    × ((t b : List ℕ) (ms : List Mark) → Chained work n chains n ms → resolveDatumIndices (memR t) ms k (count - k) (mem list notes b st) ≡ resolveDatumIndices (memR t) ms 0 count (mem list₀ notes₀ b st₀))
 
 abbrev μ-loop : tie.MeasureT-loop
-μ-loop list₀ notes₀ work n chains count s₀ k₀ list notes s k = count - k
+μ-loop list₀ notes₀ work st₀ n chains count k₀ list notes st k = count - k
 
--- src/resolve.rt:168:5
+-- src/resolve.rt:164:9
+current-addr-requires : tie.Need-current-addr-requires Inv-loop μ-loop
+current-addr-requires c κs = search needs
+
+-- src/resolve.rt:167:5
 loop-holds : tie.Need-loop-holds Inv-loop μ-loop
-loop-holds c = (refl, refl, λ t b ms h. from-start (λ (z : ℕ). resolveDatumIndices (memR t) ms 0 z (mem (c .before .before .before .args .list .now) (c .before .before .before .args .notes .now) b (c .before .before .before .args .st))) _)
+loop-holds c = (refl, refl, λ t b ms h. from-start (λ (z : ℕ). resolveDatumIndices (memR t) ms 0 z (mem (c .before .before .before .before .before .args .list .now) (c .before .before .before .before .before .args .notes .now) b (c .before .before .before .before .before .args .st .now))) _)
 
--- src/resolve.rt:170:9
+-- src/resolve.rt:169:9
 add-k : tie.Need-add-k Inv-loop μ-loop
 add-k c = omega arith
 
--- src/resolve.rt:171:12
+-- src/resolve.rt:170:12
 call-of-requires : tie.Need-call-of-requires Inv-loop μ-loop
 call-of-requires c κs = search needs
 
--- src/resolve.rt:172:13
+-- src/resolve.rt:171:13
 settle-restore-requires : tie.Need-settle-restore-requires Inv-loop μ-loop
 settle-restore-requires c κs = search needs
 
--- src/resolve.rt:168:5
+-- src/resolve.rt:167:5
 loop-less : tie.Need-loop-less Inv-loop μ-loop
 loop-less c = omega arith
 
--- src/resolve.rt:168:5
+-- src/resolve.rt:167:5
 loop-again : tie.Need-loop-again Inv-loop μ-loop
-loop-again c = ((c .before .before .before .before .settle-restore .kept .0) ∙ (c .before .before .before .before .before .before .before .before .before .before .before .loop .inv .0), (c .before .before .before .before .settle-restore .kept .1 .0) ∙ (c .before .before .before .before .before .before .before .before .before .before .before .loop .inv .1), λ t b ms h. indices-restore t ms _ _ _ _ _ (c .before .before .before .before .before .before .before .before .before .before .loop-test .taken) (c .before .before .before .before .before .before .before .before .call-of .ensures) (c .before .before .before .before .before .before .before .if1 .taken) ((c .before .before .before .before .settle-restore .ensures) t b ms h) ∙ (c .before .before .before .before .before .before .before .before .before .before .before .loop .inv .2) t b ms h)
+loop-again c = ((c .before .before .before .before .settle-restore .kept .0) ∙ (c .before .before .before .before .before .before .before .before .before .before .before .before .loop .inv .0), (c .before .before .before .before .settle-restore .kept .1 .0) ∙ (c .before .before .before .before .before .before .before .before .before .before .before .before .loop .inv .1), λ t b ms h. indices-restore t ms _ _ _ _ _ (c .before .before .before .before .before .before .before .before .before .before .before .loop-test .taken) (c .before .before .before .before .before .before .before .before .before .call-of .ensures) (c .before .before .before .before .before .before .before .before .if1 .taken) ((c .before .before .before .before .settle-restore .ensures) t b ms h) ∙ (c .before .before .before .before .before .before .before .before .before .before .before .before .loop .inv .2) t b ms h)
 
--- src/resolve.rt:168:5
+-- src/resolve.rt:167:5
 loop-less-2 : tie.Need-loop-less-2 Inv-loop μ-loop
 loop-less-2 c = search needs
 
--- src/resolve.rt:168:5
+-- src/resolve.rt:167:5
 loop-again-2 : tie.Need-loop-again-2 Inv-loop μ-loop
 loop-again-2 c = ((c .before .before .before .before .loop .inv .0), (c .before .before .before .before .loop .inv .1), λ t b ms h. indices-other t ms _ _ _ _ (c .before .before .before .loop-test .taken) (c .before .call-of .ensures) (c .if1 .left) ∙ (c .before .before .before .before .loop .inv .2) t b ms h)
 
--- src/resolve.rt:155:1
+-- src/resolve.rt:154:1
 same-length : tie.Need-same-length Inv-loop μ-loop
 same-length c = (c .before .loop .inv .0)
 
--- src/resolve.rt:155:1
+-- src/resolve.rt:154:1
 same-length-2 : tie.Need-same-length-2 Inv-loop μ-loop
 same-length-2 c = (c .before .loop .inv .1)
 
--- src/resolve.rt:155:1
+-- src/resolve.rt:154:1
 returns : tie.Need-returns Inv-loop μ-loop
-returns c = λ t b ms h. indices-done t ms _ _ _ _ (c .loop-test .left) ((c .before .loop .inv .2) t b ms h)
+returns c = λ t b ms h. indices-done t ms _ _ _ _ (c .loop-test .left) ((c .before .loop .inv .2) t b ms h) ∙ ap (λ (z : ℕ). resolveDatumIndices (memR t) ms 0 z (mem (c .before .before .before .before .before .before .before .args .list .now) (c .before .before .before .before .before .before .before .args .notes .now) b (c .before .before .before .before .before .before .before .args .st .now))) (c .before .before .current-addr .ensures)
 
 pub resolve-datum-indices-spec : {M : Type 1} → statement M
 resolve-datum-indices-spec =
@@ -73,6 +78,7 @@ resolve-datum-indices-spec =
     (tie.spec
     Inv-loop
     μ-loop
+    current-addr-requires
     loop-holds
     add-k
     call-of-requires

@@ -36,7 +36,7 @@ target-of-requires c κs = search needs
 enum-known-o : tie.Need-enum-known-o
 enum-known-o c = search needs
 
--- src/resolve.rt:101:21
+-- src/resolve.rt:101:14
 enum-told : tie.Need-enum-told
 enum-told c = search needs
 
@@ -44,19 +44,19 @@ enum-told c = search needs
 miss-requires : tie.Need-miss-requires
 miss-requires c κs = search needs
 
--- src/resolve.rt:101:9
+-- src/resolve.rt:102:9
 same-length-2 : tie.Need-same-length-2
 same-length-2 c = search needs
 
--- src/resolve.rt:101:9
+-- src/resolve.rt:102:9
 same-length-3 : tie.Need-same-length-3
 same-length-3 c = search needs
 
--- src/resolve.rt:101:9
+-- src/resolve.rt:102:9
 returns-2 : tie.Need-returns-2
-returns-2 c = λ t b ms h. loses t (addrOf ms) 2 1 (c .before .before .before .before .before .before .before .before .before .before .before .before .before .before .before .before .args .k) (c .before .before .before .before .before .before .before .before .before .before .before .look .result) (lookAt (c .before .before .before .before .before .before .before .before .before .before .before .before .before .before .before .before .args .list .now) (c .before .before .before .before .before .before .before .before .before .before .before .before .before .before .before .before .args .k)) _ _ (look-is (c .before .before .before .before .before .before .before .before .before .before .before .look .result) _ _ _ _ (c .before .before .before .before .before .before .before .before .before .before .before .look .ensures)) (c .before .before .before .before .before .before .before .before .before .before .if1 .left) (target-missing (addrOf ms _) (c .before .before .before .before .before .before .before .before .before .target-of .result) ((c .before .before .before .before .before .before .before .before .before .target-of .ensures) ms h) (c .before .before .before .before .before .before .before .enum-told .given .1)) ((c .before .before .before .before .miss .ensures) t b)
+returns-2 c = λ t b ms h. loses t (addrOf ms) 2 1 (c .before .before .before .before .before .before .before .before .before .before .before .before .before .before .before .before .before .args .k) (c .before .before .before .before .before .before .before .before .before .before .before .before .look .result) (lookAt (c .before .before .before .before .before .before .before .before .before .before .before .before .before .before .before .before .before .args .list .now) (c .before .before .before .before .before .before .before .before .before .before .before .before .before .before .before .before .before .args .k)) _ _ (look-is (c .before .before .before .before .before .before .before .before .before .before .before .before .look .result) _ _ _ _ (c .before .before .before .before .before .before .before .before .before .before .before .before .look .ensures)) (c .before .before .before .before .before .before .before .before .before .before .before .if1 .left) (target-missing (addrOf ms _) (c .before .before .before .before .before .before .before .before .before .before .target-of .result) ((c .before .before .before .before .before .before .before .before .before .before .target-of .ensures) ms h) (c .before .before .before .before .before .before .before .before .enum-told .given .1)) ((c .before .before .before .before .miss .ensures) t b)
 
--- src/resolve.rt:103:5
+-- src/resolve.rt:104:5
 settle-requires : tie.Need-settle-requires
 settle-requires c κs = search needs
 
@@ -66,7 +66,7 @@ same-length-4 c = search needs
 
 -- src/resolve.rt:83:1
 returns-3 : tie.Need-returns-3
-returns-3 c = λ t b ms h. settles t (addrOf ms) 2 1 (c .before .before .before .before .before .before .before .before .before .before .before .before .before .before .args .k) (c .before .before .before .before .before .before .before .before .before .look .result) (lookAt (c .before .before .before .before .before .before .before .before .before .before .before .before .before .before .args .list .now) (c .before .before .before .before .before .before .before .before .before .before .before .before .before .before .args .k)) _ _ _ _ _ _ (look-is (c .before .before .before .before .before .before .before .before .before .look .result) _ _ _ _ (c .before .before .before .before .before .before .before .before .before .look .ensures)) (c .before .before .before .before .before .before .before .before .if1 .left) (target-found (addrOf ms _) (c .before .before .before .before .before .before .before .target-of .result) _ ((c .before .before .before .before .before .before .before .target-of .ensures) ms h) (c .before .before .before .before .before .o .given .1)) (c .before .before .settle .ensures)
+returns-3 c = λ t b ms h. settles t (addrOf ms) 2 1 (c .before .before .before .before .before .before .before .before .before .before .before .before .before .before .before .args .k) (c .before .before .before .before .before .before .before .before .before .before .look .result) (lookAt (c .before .before .before .before .before .before .before .before .before .before .before .before .before .before .before .args .list .now) (c .before .before .before .before .before .before .before .before .before .before .before .before .before .before .before .args .k)) _ _ _ _ _ _ (look-is (c .before .before .before .before .before .before .before .before .before .before .look .result) _ _ _ _ (c .before .before .before .before .before .before .before .before .before .before .look .ensures)) (c .before .before .before .before .before .before .before .before .before .if1 .left) (target-found (addrOf ms _) (c .before .before .before .before .before .before .before .before .target-of .result) _ ((c .before .before .before .before .before .before .before .before .target-of .ensures) ms h) (c .before .before .before .before .before .before .o .given .1)) (c .before .before .settle .ensures)
 
 pub settle-jump-spec : {M : Type 1} → statement M
 settle-jump-spec =

@@ -36,7 +36,7 @@ start-of-requires c κs = search needs
 enum-known-o : tie.Need-enum-known-o
 enum-known-o c = search needs
 
--- src/resolve.rt:126:21
+-- src/resolve.rt:126:14
 enum-told : tie.Need-enum-told
 enum-told c = search needs
 
@@ -44,19 +44,19 @@ enum-told c = search needs
 miss-requires : tie.Need-miss-requires
 miss-requires c κs = search needs
 
--- src/resolve.rt:126:9
+-- src/resolve.rt:127:9
 same-length-2 : tie.Need-same-length-2
 same-length-2 c = search needs
 
--- src/resolve.rt:126:9
+-- src/resolve.rt:127:9
 same-length-3 : tie.Need-same-length-3
 same-length-3 c = search needs
 
--- src/resolve.rt:126:9
+-- src/resolve.rt:127:9
 returns-2 : tie.Need-returns-2
-returns-2 c = λ t b ms h. loses t (dataOf ms) 3 2 (c .before .before .before .before .before .before .before .before .before .before .before .before .before .before .before .before .args .k) (c .before .before .before .before .before .before .before .before .before .before .before .look .result) (lookAt (c .before .before .before .before .before .before .before .before .before .before .before .before .before .before .before .before .args .list .now) (c .before .before .before .before .before .before .before .before .before .before .before .before .before .before .before .before .args .k)) _ _ (look-is (c .before .before .before .before .before .before .before .before .before .before .before .look .result) _ _ _ _ (c .before .before .before .before .before .before .before .before .before .before .before .look .ensures)) (c .before .before .before .before .before .before .before .before .before .before .if1 .left) (start-missing (dataOf ms _) (c .before .before .before .before .before .before .before .before .before .start-of .result) ((c .before .before .before .before .before .before .before .before .before .start-of .ensures) ms h) (c .before .before .before .before .before .before .before .enum-told .given .1)) ((c .before .before .before .before .miss .ensures) t b)
+returns-2 c = λ t b ms h. loses t (dataOf ms) 3 2 (c .before .before .before .before .before .before .before .before .before .before .before .before .before .before .before .before .before .args .k) (c .before .before .before .before .before .before .before .before .before .before .before .before .look .result) (lookAt (c .before .before .before .before .before .before .before .before .before .before .before .before .before .before .before .before .before .args .list .now) (c .before .before .before .before .before .before .before .before .before .before .before .before .before .before .before .before .before .args .k)) _ _ (look-is (c .before .before .before .before .before .before .before .before .before .before .before .before .look .result) _ _ _ _ (c .before .before .before .before .before .before .before .before .before .before .before .before .look .ensures)) (c .before .before .before .before .before .before .before .before .before .before .before .if1 .left) (start-missing (dataOf ms _) (c .before .before .before .before .before .before .before .before .before .before .start-of .result) ((c .before .before .before .before .before .before .before .before .before .before .start-of .ensures) ms h) (c .before .before .before .before .before .before .before .before .enum-told .given .1)) ((c .before .before .before .before .miss .ensures) t b)
 
--- src/resolve.rt:128:5
+-- src/resolve.rt:129:5
 patch-datum-index-requires : tie.Need-patch-datum-index-requires
 patch-datum-index-requires c κs = search needs
 
@@ -66,7 +66,7 @@ same-length-4 c = search needs
 
 -- src/resolve.rt:108:1
 returns-3 : tie.Need-returns-3
-returns-3 c = λ t b ms h. settles t (dataOf ms) 3 2 (c .before .before .before .before .before .before .before .before .before .before .before .before .before .before .args .k) (c .before .before .before .before .before .before .before .before .before .look .result) (lookAt (c .before .before .before .before .before .before .before .before .before .before .before .before .before .before .args .list .now) (c .before .before .before .before .before .before .before .before .before .before .before .before .before .before .args .k)) _ _ _ _ _ _ (look-is (c .before .before .before .before .before .before .before .before .before .look .result) _ _ _ _ (c .before .before .before .before .before .before .before .before .before .look .ensures)) (c .before .before .before .before .before .before .before .before .if1 .left) (start-found (dataOf ms _) (c .before .before .before .before .before .before .before .start-of .result) _ ((c .before .before .before .before .before .before .before .start-of .ensures) ms h) (c .before .before .before .before .before .o .given .1)) (c .before .before .patch-datum-index .ensures)
+returns-3 c = λ t b ms h. settles t (dataOf ms) 3 2 (c .before .before .before .before .before .before .before .before .before .before .before .before .before .before .before .args .k) (c .before .before .before .before .before .before .before .before .before .before .look .result) (lookAt (c .before .before .before .before .before .before .before .before .before .before .before .before .before .before .before .args .list .now) (c .before .before .before .before .before .before .before .before .before .before .before .before .before .before .before .args .k)) _ _ _ _ _ _ (look-is (c .before .before .before .before .before .before .before .before .before .before .look .result) _ _ _ _ (c .before .before .before .before .before .before .before .before .before .before .look .ensures)) (c .before .before .before .before .before .before .before .before .before .if1 .left) (start-found (dataOf ms _) (c .before .before .before .before .before .before .before .before .start-of .result) _ ((c .before .before .before .before .before .before .before .before .start-of .ensures) ms h) (c .before .before .before .before .before .before .o .given .1)) (c .before .before .patch-datum-index .ensures)
 
 pub settle-restore-spec : {M : Type 1} → statement M
 settle-restore-spec =

@@ -24,63 +24,63 @@ use Rattle.statements.proofs.stmt.+compile_if+compile_stmt+compile_stmt
 use Rattle.statements.proofs.stmt.compile_stmts.Reads as compile-stmts
 use Rattle.statements.proofs.stmt.compile_stmts.Kinds as compile-stmts-kinds
 use Rattle.statements.proofs.stmt.+compile_if+compile_stmt+compile_stmts.Lts-compile_stmts as compile-stmts-lts
-use Rattle.expressions.proofs.expr.read_payload.Reads as read-payload-reads
 use Rattle.expressions.proofs.expr.node_range.Reads as node-range-reads
+use Rattle.expressions.proofs.expr.read_payload.Reads as read-payload-reads
 use Rattle.recorder.proofs.codegen.current_addr.Reads as current-addr-reads
 use Rattle.recorder.proofs.codegen.emit_no_op.Reads as emit-no-op-reads
 use Rattle.recorder.proofs.word.behind.Reads as behind-reads
 use Rattle.recorder.proofs.word.payload_at.Reads as payload-at-reads
 use Rattle.sheet.proofs.leaf.is_absent.Reads as is-absent-reads
 use Rattle.statements.proofs.plain.compile_plain.Reads as compile-plain-reads
-use Rattle.walk.proofs.shape.shape_of.Reads as shape-of-reads
 use Rattle.statements.proofs.stmt.else_head.Reads as else-head-reads
 use Rattle.statements.proofs.stmt.end_here.Reads as end-here-reads
 use Rattle.statements.proofs.stmt.if_head.Reads as if-head-reads
+use Rattle.walk.proofs.shape.shape_of.Reads as shape-of-reads
 use Rattle.statements.proofs.stmt.+compile_if+compile_stmt+compile_stmts.{statement}
 use Rattle.statements.proofs.stmt.+compile_if+compile_stmt+compile_stmts.Tie.{close}
 
-abbrev μ-compile-if : Measures 5 compile-if-kinds.ps ℕ
+abbrev μ-compile-if : Measures 8 compile-if-kinds.ps ℕ
 μ-compile-if κs a = 3 * (a .1 .1 .1 .1 .1 .1 .1 .1 .0) + 2
 
-abbrev μ-compile-stmt : Measures 5 compile-stmt-kinds.ps ℕ
+abbrev μ-compile-stmt : Measures 8 compile-stmt-kinds.ps ℕ
 μ-compile-stmt κs a = 3 * (a .1 .1 .1 .1 .1 .1 .1 .1 .0)
 
-abbrev μ-compile-stmts : Measures 5 compile-stmts-kinds.ps ℕ
+abbrev μ-compile-stmts : Measures 8 compile-stmts-kinds.ps ℕ
 μ-compile-stmts κs a = 3 * (a .1 .1 .1 .1 .1 .1 .1 .1 .0) + 1
 
-abbrev compile-if-at : ℕ → In 5 compile-if-kinds.ps
+abbrev compile-if-at : ℕ → In 8 compile-if-kinds.ps
 compile-if-at t =
-    and 5 compile-if-kinds.ps (is 5 compile-if-kinds.ps μ-compile-if t) compile-if.Pre
+    and 8 compile-if-kinds.ps (is 8 compile-if-kinds.ps μ-compile-if t) compile-if.Pre
 
-abbrev compile-if-below : ℕ → In 5 compile-if-kinds.ps
+abbrev compile-if-below : ℕ → In 8 compile-if-kinds.ps
 compile-if-below t =
-    and 5 compile-if-kinds.ps (falls 5 compile-if-kinds.ps _<_ μ-compile-if t) compile-if.Pre
+    and 8 compile-if-kinds.ps (falls 8 compile-if-kinds.ps _<_ μ-compile-if t) compile-if.Pre
 
-abbrev compile-stmt-at : ℕ → In 5 compile-stmt-kinds.ps
+abbrev compile-stmt-at : ℕ → In 8 compile-stmt-kinds.ps
 compile-stmt-at t =
-    and 5 compile-stmt-kinds.ps (is 5 compile-stmt-kinds.ps μ-compile-stmt t) compile-stmt.Pre
+    and 8 compile-stmt-kinds.ps (is 8 compile-stmt-kinds.ps μ-compile-stmt t) compile-stmt.Pre
 
-abbrev compile-stmt-below : ℕ → In 5 compile-stmt-kinds.ps
+abbrev compile-stmt-below : ℕ → In 8 compile-stmt-kinds.ps
 compile-stmt-below t =
     and
-    5
+    8
     compile-stmt-kinds.ps
-    (falls 5 compile-stmt-kinds.ps _<_ μ-compile-stmt t)
+    (falls 8 compile-stmt-kinds.ps _<_ μ-compile-stmt t)
     compile-stmt.Pre
 
-abbrev compile-stmts-at : ℕ → In 5 compile-stmts-kinds.ps
+abbrev compile-stmts-at : ℕ → In 8 compile-stmts-kinds.ps
 compile-stmts-at t =
-    and 5 compile-stmts-kinds.ps (is 5 compile-stmts-kinds.ps μ-compile-stmts t) compile-stmts.Pre
+    and 8 compile-stmts-kinds.ps (is 8 compile-stmts-kinds.ps μ-compile-stmts t) compile-stmts.Pre
 
-abbrev compile-stmts-below : ℕ → In 5 compile-stmts-kinds.ps
+abbrev compile-stmts-below : ℕ → In 8 compile-stmts-kinds.ps
 compile-stmts-below t =
     and
-    5
+    8
     compile-stmts-kinds.ps
-    (falls 5 compile-stmts-kinds.ps _<_ μ-compile-stmts t)
+    (falls 8 compile-stmts-kinds.ps _<_ μ-compile-stmts t)
     compile-stmts.Pre
 
--- src/stmt.rt:75:9
+-- src/stmt.rt:82:9
 compile-if-if-head-requires : (t : ℕ) → compile-if-lts.Need-if-head-requires (
   if-head-reads.Asked,
   if-head-reads.Learnt,
@@ -99,7 +99,7 @@ compile-if-if-head-requires : (t : ℕ) → compile-if-lts.Need-if-head-requires
 ) (compile-if-at t) compile-if.Post
 compile-if-if-head-requires t c κs = search needs
 
--- src/stmt.rt:78:9
+-- src/stmt.rt:84:9
 compile-if-compile-stmts-requires : (t : ℕ) → compile-if-lts.Need-compile-stmts-requires (
   if-head-reads.Asked,
   if-head-reads.Learnt,
@@ -116,9 +116,9 @@ compile-if-compile-stmts-requires : (t : ℕ) → compile-if-lts.Need-compile-st
   else-head-reads.Asked,
   else-head-reads.Learnt,
 ) (compile-if-at t) compile-if.Post
-compile-if-compile-stmts-requires t c κs = omega (arith, (c .before .before .before .before .before .before .before .before .before .before .before .before .before .before .before .before .before .before .before .before .pre .0))
+compile-if-compile-stmts-requires t c κs = omega (arith, (c .before .before .before .before .before .before .before .before .before .before .before .before .before .before .before .before .before .before .before .pre .0))
 
--- src/stmt.rt:81:8
+-- src/stmt.rt:85:8
 compile-if-is-absent-requires : (t : ℕ) → compile-if-lts.Need-is-absent-requires (
   if-head-reads.Asked,
   if-head-reads.Learnt,
@@ -137,7 +137,7 @@ compile-if-is-absent-requires : (t : ℕ) → compile-if-lts.Need-is-absent-requ
 ) (compile-if-at t) compile-if.Post
 compile-if-is-absent-requires t c κs = search needs
 
--- src/stmt.rt:82:9
+-- src/stmt.rt:86:9
 compile-if-end-here-requires : (t : ℕ) → compile-if-lts.Need-end-here-requires (
   if-head-reads.Asked,
   if-head-reads.Learnt,
@@ -156,7 +156,7 @@ compile-if-end-here-requires : (t : ℕ) → compile-if-lts.Need-end-here-requir
 ) (compile-if-at t) compile-if.Post
 compile-if-end-here-requires t c κs = search needs
 
--- src/stmt.rt:85:17
+-- src/stmt.rt:87:9
 compile-if-behind-requires : (t : ℕ) → compile-if-lts.Need-behind-requires (
   if-head-reads.Asked,
   if-head-reads.Learnt,
@@ -175,7 +175,7 @@ compile-if-behind-requires : (t : ℕ) → compile-if-lts.Need-behind-requires (
 ) (compile-if-at t) compile-if.Post
 compile-if-behind-requires t c κs = search needs
 
--- src/stmt.rt:83:9
+-- src/stmt.rt:87:9
 compile-if-same-length : (t : ℕ) → compile-if-lts.Need-same-length (
   if-head-reads.Asked,
   if-head-reads.Learnt,
@@ -192,9 +192,9 @@ compile-if-same-length : (t : ℕ) → compile-if-lts.Need-same-length (
   else-head-reads.Asked,
   else-head-reads.Learnt,
 ) (compile-if-at t) compile-if.Post
-compile-if-same-length t c = (c .before .before .before .end-here .kept .0) ∙ (c .before .before .before .before .before .before .before .before .before .before .before .before .before .before .compile-stmts .kept .1 .1 .0) ∙ (c .before .before .before .before .before .before .before .before .before .before .before .before .before .before .before .before .before .before .before .before .before .before .before .before .before .before .if-head .kept .1 .1 .0)
+compile-if-same-length t c = (c .before .before .before .before .end-here .kept .0) ∙ (c .before .before .before .before .before .before .before .before .before .before .before .before .before .before .before .before .compile-stmts .kept .1 .1 .0) ∙ (c .before .before .before .before .before .before .before .before .before .before .before .before .before .before .before .before .before .before .before .before .before .before .before .before .before .before .before .before .if-head .kept .1 .1 .0)
 
--- src/stmt.rt:83:9
+-- src/stmt.rt:87:9
 compile-if-same-length-2 : (t : ℕ) → compile-if-lts.Need-same-length-2 (
   if-head-reads.Asked,
   if-head-reads.Learnt,
@@ -211,9 +211,9 @@ compile-if-same-length-2 : (t : ℕ) → compile-if-lts.Need-same-length-2 (
   else-head-reads.Asked,
   else-head-reads.Learnt,
 ) (compile-if-at t) compile-if.Post
-compile-if-same-length-2 t c = (c .before .before .before .before .before .before .before .before .before .before .before .before .before .before .compile-stmts .kept .1 .1 .1 .0) ∙ (c .before .before .before .before .before .before .before .before .before .before .before .before .before .before .before .before .before .before .before .before .before .before .before .before .before .before .if-head .kept .1 .1 .1 .0)
+compile-if-same-length-2 t c = (c .before .before .before .before .before .before .before .before .before .before .before .before .before .before .before .before .compile-stmts .kept .1 .1 .1 .0) ∙ (c .before .before .before .before .before .before .before .before .before .before .before .before .before .before .before .before .before .before .before .before .before .before .before .before .before .before .before .before .if-head .kept .1 .1 .1 .0)
 
--- src/stmt.rt:83:9
+-- src/stmt.rt:87:9
 compile-if-same-length-3 : (t : ℕ) → compile-if-lts.Need-same-length-3 (
   if-head-reads.Asked,
   if-head-reads.Learnt,
@@ -230,9 +230,9 @@ compile-if-same-length-3 : (t : ℕ) → compile-if-lts.Need-same-length-3 (
   else-head-reads.Asked,
   else-head-reads.Learnt,
 ) (compile-if-at t) compile-if.Post
-compile-if-same-length-3 t c = (c .before .before .before .before .before .before .before .before .before .before .before .before .before .before .compile-stmts .kept .1 .1 .1 .1 .0) ∙ (c .before .before .before .before .before .before .before .before .before .before .before .before .before .before .before .before .before .before .before .before .before .before .before .before .before .before .if-head .kept .1 .1 .1 .1 .0)
+compile-if-same-length-3 t c = (c .before .before .before .before .before .before .before .before .before .before .before .before .before .before .before .before .compile-stmts .kept .1 .1 .1 .1 .0) ∙ (c .before .before .before .before .before .before .before .before .before .before .before .before .before .before .before .before .before .before .before .before .before .before .before .before .before .before .before .before .if-head .kept .1 .1 .1 .1 .0)
 
--- src/stmt.rt:83:9
+-- src/stmt.rt:87:9
 compile-if-returns : (t : ℕ) → compile-if-lts.Need-returns (
   if-head-reads.Asked,
   if-head-reads.Learnt,
@@ -249,9 +249,9 @@ compile-if-returns : (t : ℕ) → compile-if-lts.Need-returns (
   else-head-reads.Asked,
   else-head-reads.Learnt,
 ) (compile-if-at t) compile-if.Post
-compile-if-returns t c = if-then _ _ _ _ _ _ _ _ _ _ _ _ _ _ _ (c .before .before .before .before .before .before .before .before .before .before .before .before .before .before .before .before .before .before .before .before .before .before .before .before .before .before .if-head .ensures) (c .before .before .before .before .before .before .before .before .before .before .before .before .before .before .compile-stmts .ensures) (c .before .before .before .before .before .before .is-absent .ensures) (c .before .before .before .before .before .if1 .taken) ((c .before .before .before .end-here .ensures) (c .before .before .before .before .before .before .before .before .before .before .before .before .before .before .before .before .before .before .before .before .before .before .before .before .before .before .before .before .before .before .before .before .before .before .before .args .text .now) _ _ (c .before .before .before .before .before .before .before .before .before .before .before .before .before .before .before .before .before .before .before .before .before .before .before .before .before .before .before .before .before .before .before .before .before .before .before .args .base)) (c .behind .ensures)
+compile-if-returns t c = if-then _ _ _ _ _ _ _ _ _ _ _ _ _ _ _ (c .before .before .before .before .before .before .before .before .before .before .before .before .before .before .before .before .before .before .before .before .before .before .before .before .before .before .before .before .if-head .ensures) (c .before .before .before .before .before .before .before .before .before .before .before .before .before .before .before .before .compile-stmts .ensures) (c .before .before .before .before .before .before .before .before .is-absent .ensures) (c .before .before .before .before .before .before .before .if1 .taken) ((c .before .before .before .before .end-here .ensures) (c .before .before .before .before .before .before .before .before .before .before .before .before .before .before .before .before .before .before .before .before .before .before .before .before .before .before .before .before .before .before .before .before .before .before .before .before .args .text .now .now) _ _ (c .before .before .before .before .before .before .before .before .before .before .before .before .before .before .before .before .before .before .before .before .before .before .before .before .before .before .before .before .before .before .before .before .before .before .before .before .args .base)) (c .behind .ensures)
 
--- src/stmt.rt:88:9
+-- src/stmt.rt:89:9
 compile-if-current-addr-requires : (t : ℕ) → compile-if-lts.Need-current-addr-requires (
   if-head-reads.Asked,
   if-head-reads.Learnt,
@@ -270,7 +270,7 @@ compile-if-current-addr-requires : (t : ℕ) → compile-if-lts.Need-current-add
 ) (compile-if-at t) compile-if.Post
 compile-if-current-addr-requires t c κs = search needs
 
--- src/stmt.rt:89:9
+-- src/stmt.rt:90:5
 compile-if-else-head-requires : (t : ℕ) → compile-if-lts.Need-else-head-requires (
   if-head-reads.Asked,
   if-head-reads.Learnt,
@@ -289,7 +289,7 @@ compile-if-else-head-requires : (t : ℕ) → compile-if-lts.Need-else-head-requ
 ) (compile-if-at t) compile-if.Post
 compile-if-else-head-requires t c κs = search needs
 
--- src/stmt.rt:90:9
+-- src/stmt.rt:91:9
 compile-if-compile-stmts-requires-2 : (t : ℕ) → compile-if-lts.Need-compile-stmts-requires-2 (
   if-head-reads.Asked,
   if-head-reads.Learnt,
@@ -306,7 +306,7 @@ compile-if-compile-stmts-requires-2 : (t : ℕ) → compile-if-lts.Need-compile-
   else-head-reads.Asked,
   else-head-reads.Learnt,
 ) (compile-if-at t) compile-if.Post
-compile-if-compile-stmts-requires-2 t c κs = omega (arith, (c .before .before .before .before .before .before .before .before .before .before .before .before .before .before .before .before .before .before .before .before .before .before .before .before .before .before .before .before .before .before .before .before .before .before .before .before .before .before .pre .0))
+compile-if-compile-stmts-requires-2 t c κs = omega (arith, (c .before .before .before .before .before .before .before .before .before .before .before .before .before .before .before .before .before .before .before .before .before .before .before .before .before .before .before .before .before .before .before .before .before .before .before .before .before .before .before .before .pre .0))
 
 -- src/stmt.rt:92:5
 compile-if-end-here-requires-2 : (t : ℕ) → compile-if-lts.Need-end-here-requires-2 (
@@ -327,7 +327,7 @@ compile-if-end-here-requires-2 : (t : ℕ) → compile-if-lts.Need-end-here-requ
 ) (compile-if-at t) compile-if.Post
 compile-if-end-here-requires-2 t c κs = search needs
 
--- src/stmt.rt:61:1
+-- src/stmt.rt:68:1
 compile-if-same-length-4 : (t : ℕ) → compile-if-lts.Need-same-length-4 (
   if-head-reads.Asked,
   if-head-reads.Learnt,
@@ -344,9 +344,9 @@ compile-if-same-length-4 : (t : ℕ) → compile-if-lts.Need-same-length-4 (
   else-head-reads.Asked,
   else-head-reads.Learnt,
 ) (compile-if-at t) compile-if.Post
-compile-if-same-length-4 t c = (c .before .before .end-here2 .kept .0) ∙ (c .before .before .before .before .before .before .before .before .before .before .before .compile-stmts2 .kept .1 .1 .0) ∙ (c .before .before .before .before .before .before .before .before .before .before .before .before .before .before .before .before .before .else-head .kept .0) ∙ (c .before .before .before .before .before .before .before .before .before .before .before .before .before .before .before .before .before .before .before .before .before .before .before .before .before .before .before .before .before .compile-stmts .kept .1 .1 .0) ∙ (c .before .before .before .before .before .before .before .before .before .before .before .before .before .before .before .before .before .before .before .before .before .before .before .before .before .before .before .before .before .before .before .before .before .before .before .before .before .before .before .before .before .if-head .kept .1 .1 .0)
+compile-if-same-length-4 t c = (c .before .before .end-here2 .kept .0) ∙ (c .before .before .before .before .before .before .before .before .before .before .before .compile-stmts2 .kept .1 .1 .0) ∙ (c .before .before .before .before .before .before .before .before .before .before .before .before .before .before .before .before .before .before .else-head .kept .0) ∙ (c .before .before .before .before .before .before .before .before .before .before .before .before .before .before .before .before .before .before .before .before .before .before .before .before .before .before .before .before .before .before .before .before .compile-stmts .kept .1 .1 .0) ∙ (c .before .before .before .before .before .before .before .before .before .before .before .before .before .before .before .before .before .before .before .before .before .before .before .before .before .before .before .before .before .before .before .before .before .before .before .before .before .before .before .before .before .before .before .before .if-head .kept .1 .1 .0)
 
--- src/stmt.rt:61:1
+-- src/stmt.rt:68:1
 compile-if-same-length-5 : (t : ℕ) → compile-if-lts.Need-same-length-5 (
   if-head-reads.Asked,
   if-head-reads.Learnt,
@@ -363,9 +363,9 @@ compile-if-same-length-5 : (t : ℕ) → compile-if-lts.Need-same-length-5 (
   else-head-reads.Asked,
   else-head-reads.Learnt,
 ) (compile-if-at t) compile-if.Post
-compile-if-same-length-5 t c = (c .before .before .before .before .before .before .before .before .before .before .before .compile-stmts2 .kept .1 .1 .1 .0) ∙ (c .before .before .before .before .before .before .before .before .before .before .before .before .before .before .before .before .before .before .before .before .before .before .before .before .before .before .before .before .before .compile-stmts .kept .1 .1 .1 .0) ∙ (c .before .before .before .before .before .before .before .before .before .before .before .before .before .before .before .before .before .before .before .before .before .before .before .before .before .before .before .before .before .before .before .before .before .before .before .before .before .before .before .before .before .if-head .kept .1 .1 .1 .0)
+compile-if-same-length-5 t c = (c .before .before .before .before .before .before .before .before .before .before .before .compile-stmts2 .kept .1 .1 .1 .0) ∙ (c .before .before .before .before .before .before .before .before .before .before .before .before .before .before .before .before .before .before .before .before .before .before .before .before .before .before .before .before .before .before .before .before .compile-stmts .kept .1 .1 .1 .0) ∙ (c .before .before .before .before .before .before .before .before .before .before .before .before .before .before .before .before .before .before .before .before .before .before .before .before .before .before .before .before .before .before .before .before .before .before .before .before .before .before .before .before .before .before .before .before .if-head .kept .1 .1 .1 .0)
 
--- src/stmt.rt:61:1
+-- src/stmt.rt:68:1
 compile-if-same-length-6 : (t : ℕ) → compile-if-lts.Need-same-length-6 (
   if-head-reads.Asked,
   if-head-reads.Learnt,
@@ -382,9 +382,9 @@ compile-if-same-length-6 : (t : ℕ) → compile-if-lts.Need-same-length-6 (
   else-head-reads.Asked,
   else-head-reads.Learnt,
 ) (compile-if-at t) compile-if.Post
-compile-if-same-length-6 t c = (c .before .before .before .before .before .before .before .before .before .before .before .compile-stmts2 .kept .1 .1 .1 .1 .0) ∙ (c .before .before .before .before .before .before .before .before .before .before .before .before .before .before .before .before .before .before .before .before .before .before .before .before .before .before .before .before .before .compile-stmts .kept .1 .1 .1 .1 .0) ∙ (c .before .before .before .before .before .before .before .before .before .before .before .before .before .before .before .before .before .before .before .before .before .before .before .before .before .before .before .before .before .before .before .before .before .before .before .before .before .before .before .before .before .if-head .kept .1 .1 .1 .1 .0)
+compile-if-same-length-6 t c = (c .before .before .before .before .before .before .before .before .before .before .before .compile-stmts2 .kept .1 .1 .1 .1 .0) ∙ (c .before .before .before .before .before .before .before .before .before .before .before .before .before .before .before .before .before .before .before .before .before .before .before .before .before .before .before .before .before .before .before .before .compile-stmts .kept .1 .1 .1 .1 .0) ∙ (c .before .before .before .before .before .before .before .before .before .before .before .before .before .before .before .before .before .before .before .before .before .before .before .before .before .before .before .before .before .before .before .before .before .before .before .before .before .before .before .before .before .before .before .before .if-head .kept .1 .1 .1 .1 .0)
 
--- src/stmt.rt:61:1
+-- src/stmt.rt:68:1
 compile-if-returns-2 : (t : ℕ) → compile-if-lts.Need-returns-2 (
   if-head-reads.Asked,
   if-head-reads.Learnt,
@@ -401,7 +401,7 @@ compile-if-returns-2 : (t : ℕ) → compile-if-lts.Need-returns-2 (
   else-head-reads.Asked,
   else-head-reads.Learnt,
 ) (compile-if-at t) compile-if.Post
-compile-if-returns-2 t c = if-else _ _ _ _ _ _ _ _ _ _ _ _ _ _ _ _ _ _ (c .before .before .before .before .before .before .before .before .before .before .before .before .before .before .before .before .before .before .before .before .before .before .before .before .before .before .before .before .before .before .before .before .before .before .before .before .before .before .before .before .before .if-head .ensures) (c .before .before .before .before .before .before .before .before .before .before .before .before .before .before .before .before .before .before .before .before .before .before .before .before .before .before .before .before .before .compile-stmts .ensures) (c .before .before .before .before .before .before .before .before .before .before .before .before .before .before .before .before .before .before .before .before .before .is-absent .ensures) (c .before .before .before .before .before .before .before .before .before .before .before .before .before .before .before .before .before .before .before .before .if1 .left) (c .before .before .before .before .before .before .before .before .before .before .before .before .before .before .before .before .before .before .before .current-addr .ensures) ((c .before .before .before .before .before .before .before .before .before .before .before .before .before .before .before .before .before .else-head .ensures) (c .before .before .before .before .before .before .before .before .before .before .before .before .before .before .before .before .before .before .before .before .before .before .before .before .before .before .before .before .before .before .before .before .before .before .before .before .before .before .before .before .before .before .before .before .before .before .before .before .before .before .args .text .now) _ _ (c .before .before .before .before .before .before .before .before .before .before .before .before .before .before .before .before .before .before .before .before .before .before .before .before .before .before .before .before .before .before .before .before .before .before .before .before .before .before .before .before .before .before .before .before .before .before .before .before .before .before .args .base)) (c .before .before .before .before .before .before .before .before .before .before .before .compile-stmts2 .ensures) ((c .before .before .end-here2 .ensures) (c .before .before .before .before .before .before .before .before .before .before .before .before .before .before .before .before .before .before .before .before .before .before .before .before .before .before .before .before .before .before .before .before .before .before .before .before .before .before .before .before .before .before .before .before .before .before .before .before .before .before .args .text .now) _ _ (c .before .before .before .before .before .before .before .before .before .before .before .before .before .before .before .before .before .before .before .before .before .before .before .before .before .before .before .before .before .before .before .before .before .before .before .before .before .before .before .before .before .before .before .before .before .before .before .before .before .before .args .base))
+compile-if-returns-2 t c = if-else _ _ _ _ _ _ _ _ _ _ _ _ _ _ _ _ _ _ (c .before .before .before .before .before .before .before .before .before .before .before .before .before .before .before .before .before .before .before .before .before .before .before .before .before .before .before .before .before .before .before .before .before .before .before .before .before .before .before .before .before .before .before .before .if-head .ensures) (c .before .before .before .before .before .before .before .before .before .before .before .before .before .before .before .before .before .before .before .before .before .before .before .before .before .before .before .before .before .before .before .before .compile-stmts .ensures) (c .before .before .before .before .before .before .before .before .before .before .before .before .before .before .before .before .before .before .before .before .before .before .before .before .is-absent .ensures) (c .before .before .before .before .before .before .before .before .before .before .before .before .before .before .before .before .before .before .before .before .before .before .before .if1 .left) (c .before .before .before .before .before .before .before .before .before .before .before .before .before .before .before .before .before .before .before .before .before .current-addr .ensures) ((c .before .before .before .before .before .before .before .before .before .before .before .before .before .before .before .before .before .before .else-head .ensures) (c .before .before .before .before .before .before .before .before .before .before .before .before .before .before .before .before .before .before .before .before .before .before .before .before .before .before .before .before .before .before .before .before .before .before .before .before .before .before .before .before .before .before .before .before .before .before .before .before .before .before .before .before .args .text .now .now) _ _ (c .before .before .before .before .before .before .before .before .before .before .before .before .before .before .before .before .before .before .before .before .before .before .before .before .before .before .before .before .before .before .before .before .before .before .before .before .before .before .before .before .before .before .before .before .before .before .before .before .before .before .before .before .args .base)) (c .before .before .before .before .before .before .before .before .before .before .before .compile-stmts2 .ensures) ((c .before .before .end-here2 .ensures) (c .before .before .before .before .before .before .before .before .before .before .before .before .before .before .before .before .before .before .before .before .before .before .before .before .before .before .before .before .before .before .before .before .before .before .before .before .before .before .before .before .before .before .before .before .before .before .before .before .before .before .before .before .args .text .now .now) _ _ (c .before .before .before .before .before .before .before .before .before .before .before .before .before .before .before .before .before .before .before .before .before .before .before .before .before .before .before .before .before .before .before .before .before .before .before .before .before .before .before .before .before .before .before .before .before .before .before .before .before .before .before .before .args .base))
 
 -- src/stmt.rt:109:9
 compile-stmt-node-range-requires : (t : ℕ) → compile-stmt-lts.Need-node-range-requires (
@@ -422,7 +422,7 @@ compile-stmt-node-range-requires : (t : ℕ) → compile-stmt-lts.Need-node-rang
 ) (compile-stmt-at t) compile-stmt.Post
 compile-stmt-node-range-requires t c κs = search needs
 
--- src/stmt.rt:111:13
+-- src/stmt.rt:111:9
 compile-stmt-emit-no-op-requires : (t : ℕ) → compile-stmt-lts.Need-emit-no-op-requires (
   node-range-reads.Asked,
   node-range-reads.Learnt,
@@ -477,7 +477,7 @@ compile-stmt-returns : (t : ℕ) → compile-stmt-lts.Need-returns (
   compile-plain-reads.Asked,
   compile-plain-reads.Learnt,
 ) (compile-stmt-at t) compile-stmt.Post
-compile-stmt-returns t c = stmt-zero _ _ _ _ _ _ _ _ (c .before .before .before .before .before .node-range .ensures) (c .before .before .before .before .if1 .taken) (put-at _ _ _ _ _ _ _ _ _ _ _ (c .before .before .emit-no-op .ensures))
+compile-stmt-returns t c = stmt-zero _ _ _ _ _ _ _ _ (c .before .before .before .before .before .before .node-range .ensures) (c .before .before .before .before .before .if1 .taken) (put-at _ _ _ _ _ _ _ _ _ _ _ (c .before .before .emit-no-op .ensures))
 
 -- src/stmt.rt:114:9
 compile-stmt-payload-at-requires : (t : ℕ) → compile-stmt-lts.Need-payload-at-requires (
@@ -517,7 +517,7 @@ compile-stmt-shape-of-requires : (t : ℕ) → compile-stmt-lts.Need-shape-of-re
 ) (compile-stmt-at t) compile-stmt.Post
 compile-stmt-shape-of-requires t c κs = search needs
 
--- src/stmt.rt:116:43
+-- src/stmt.rt:116:44
 compile-stmt-behind-requires : (t : ℕ) → compile-stmt-lts.Need-behind-requires (
   node-range-reads.Asked,
   node-range-reads.Learnt,
@@ -572,7 +572,7 @@ compile-stmt-sub-compile-if : (t : ℕ) → compile-stmt-lts.Need-sub-compile-if
   compile-plain-reads.Asked,
   compile-plain-reads.Learnt,
 ) (compile-stmt-at t) compile-stmt.Post
-compile-stmt-sub-compile-if t c = omega (arith, (c .before .before .before .before .before .before .before .before .if1 .left))
+compile-stmt-sub-compile-if t c = omega (arith, (c .before .before .before .before .before .before .before .before .before .before .before .before .if1 .left))
 
 -- src/stmt.rt:118:9
 compile-stmt-compile-if-requires : (t : ℕ) → compile-stmt-lts.Need-compile-if-requires (
@@ -591,7 +591,7 @@ compile-stmt-compile-if-requires : (t : ℕ) → compile-stmt-lts.Need-compile-i
   compile-plain-reads.Asked,
   compile-plain-reads.Learnt,
 ) (compile-stmt-at t) compile-stmt.Post
-compile-stmt-compile-if-requires t c κs = omega (arith, (c .before .before .before .before .before .before .before .before .before .before .before .before .before .before .before .pre .0), (c .before .before .before .before .before .before .before .before .if1 .left))
+compile-stmt-compile-if-requires t c κs = omega (arith, (c .before .before .before .before .before .before .before .before .before .before .before .before .before .before .before .before .before .before .pre .0), (c .before .before .before .before .before .before .before .before .before .before .before .before .if1 .left))
 
 -- src/stmt.rt:118:9
 compile-stmt-same-length-2 : (t : ℕ) → compile-stmt-lts.Need-same-length-2 (
@@ -667,9 +667,9 @@ compile-stmt-returns-2 : (t : ℕ) → compile-stmt-lts.Need-returns-2 (
   compile-plain-reads.Asked,
   compile-plain-reads.Learnt,
 ) (compile-stmt-at t) compile-stmt.Post
-compile-stmt-returns-2 t c = stmt-if _ _ _ _ _ _ _ _ _ _ _ _ (head _ _ _ _ _ _ _ (c .before .before .before .before .before .before .before .before .before .before .before .before .before .before .before .if1 .left) (c .before .before .before .before .before .before .before .before .before .before .before .before .before .before .payload-at .ensures) (c .before .before .before .before .before .before .before .before .before .before .before .before .before .before .before .before .node-range .ensures) (c .before .before .before .before .before .before .before .before .before .before .before .before .behind .ensures) (c .before .before .before .before .before .before .before .before .before .before .before .behind2 .ensures)) (c .before .before .before .before .before .before .before .before .before .before .before .before .before .shape-of .ensures) (c .before .before .before .before .before .before .before .before .before .before .if2 .taken) (c .before .before .before .before .before .before .compile-if .ensures)
+compile-stmt-returns-2 t c = stmt-if _ _ _ _ _ _ _ _ _ _ _ _ (head _ _ _ _ _ _ _ (c .before .before .before .before .before .before .before .before .before .before .before .before .before .before .before .before .before .before .before .if1 .left) (c .before .before .before .before .before .before .before .before .before .before .before .before .before .before .before .before .before .payload-at .ensures) (c .before .before .before .before .before .before .before .before .before .before .before .before .before .before .before .before .before .before .before .before .node-range .ensures) (c .before .before .before .before .before .before .before .before .before .before .before .before .before .behind .ensures) (c .before .before .before .before .before .before .before .before .before .before .before .before .behind2 .ensures)) (c .before .before .before .before .before .before .before .before .before .before .before .before .before .before .before .before .shape-of .ensures) (c .before .before .before .before .before .before .before .before .before .before .before .if2 .taken) (c .before .before .before .before .before .before .compile-if .ensures)
 
--- src/stmt.rt:120:78
+-- src/stmt.rt:129:9
 compile-stmt-sub-compile-plain : (t : ℕ) → compile-stmt-lts.Need-sub-compile-plain (
   node-range-reads.Asked,
   node-range-reads.Learnt,
@@ -686,7 +686,7 @@ compile-stmt-sub-compile-plain : (t : ℕ) → compile-stmt-lts.Need-sub-compile
   compile-plain-reads.Asked,
   compile-plain-reads.Learnt,
 ) (compile-stmt-at t) compile-stmt.Post
-compile-stmt-sub-compile-plain t c = omega (arith, (c .before .before .before .before .before .before .before .before .if1 .left))
+compile-stmt-sub-compile-plain t c = omega (arith, (c .before .before .before .before .before .before .before .before .before .before .before .before .if1 .left))
 
 -- src/stmt.rt:120:5
 compile-stmt-compile-plain-requires : (t : ℕ) → compile-stmt-lts.Need-compile-plain-requires (
@@ -781,17 +781,17 @@ compile-stmt-returns-3 : (t : ℕ) → compile-stmt-lts.Need-returns-3 (
   compile-plain-reads.Asked,
   compile-plain-reads.Learnt,
 ) (compile-stmt-at t) compile-stmt.Post
-compile-stmt-returns-3 t c = stmt-plain _ _ _ _ _ _ _ _ _ _ _ _ (head _ _ _ _ _ _ _ (c .before .before .before .before .before .before .before .before .before .before .before .before .before .before .before .if1 .left) (c .before .before .before .before .before .before .before .before .before .before .before .before .before .before .payload-at .ensures) (c .before .before .before .before .before .before .before .before .before .before .before .before .before .before .before .before .node-range .ensures) (c .before .before .before .before .before .before .before .before .before .before .before .before .behind .ensures) (c .before .before .before .before .before .before .before .before .before .before .before .behind2 .ensures)) (c .before .before .before .before .before .before .before .before .before .before .before .before .before .shape-of .ensures) (c .before .before .before .before .before .before .before .before .before .before .if2 .left) (c .before .before .before .before .before .before .compile-plain .ensures)
+compile-stmt-returns-3 t c = stmt-plain _ _ _ _ _ _ _ _ _ _ _ _ (head _ _ _ _ _ _ _ (c .before .before .before .before .before .before .before .before .before .before .before .before .before .before .before .before .before .before .before .if1 .left) (c .before .before .before .before .before .before .before .before .before .before .before .before .before .before .before .before .before .payload-at .ensures) (c .before .before .before .before .before .before .before .before .before .before .before .before .before .before .before .before .before .before .before .before .node-range .ensures) (c .before .before .before .before .before .before .before .before .before .before .before .before .before .behind .ensures) (c .before .before .before .before .before .before .before .before .before .before .before .before .behind2 .ensures)) (c .before .before .before .before .before .before .before .before .before .before .before .before .before .before .before .before .shape-of .ensures) (c .before .before .before .before .before .before .before .before .before .before .before .if2 .left) (c .before .before .before .before .before .before .compile-plain .ensures)
 
 abbrev compile-stmts-Inv-loop : compile-stmts-lts.InvT-loop
-compile-stmts-Inv-loop sheet text list₀ notes₀ book₀ base at left s₀ p₀ more₀ list notes book s p more = (length list ≡ length list₀) × (length notes ≡ length notes₀) × (length book ≡ length book₀)
-    × (skipRepeat sheet (skipNode sheet left stmtSort) more p ≡ skipRepeat sheet (skipNode sheet left stmtSort) more₀ p₀)
-    × (compileStmts (memR text) text base (stmtsAt sheet (stmtAt sheet left) (skipNode sheet left stmtSort) more p) (mem list notes book s) ≡ compileStmts (memR text) text base (stmtsAt sheet (stmtAt sheet left) (skipNode sheet left stmtSort) more₀ p₀) (mem list₀ notes₀ book₀ s₀))
+compile-stmts-Inv-loop sheet text list₀ notes₀ book₀ st₀ base at left p₀ more₀ list notes book st p more = (length list ≡ length list₀) × (length notes ≡ length notes₀) × (length book ≡ length book₀)
+    × (skipRepeat (sheet .now) (skipNode (sheet .now) left stmtSort) more p ≡ skipRepeat (sheet .now) (skipNode (sheet .now) left stmtSort) more₀ p₀)
+    × (compileStmts (memR (text .now)) (text .now) base (stmtsAt (sheet .now) (stmtAt (sheet .now) left) (skipNode (sheet .now) left stmtSort) more p) (mem list notes book st) ≡ compileStmts (memR (text .now)) (text .now) base (stmtsAt (sheet .now) (stmtAt (sheet .now) left) (skipNode (sheet .now) left stmtSort) more₀ p₀) (mem list₀ notes₀ book₀ st₀))
 
 abbrev compile-stmts-μ-loop : compile-stmts-lts.MeasureT-loop
-compile-stmts-μ-loop sheet text list₀ notes₀ book₀ base at left s₀ p₀ more₀ list notes book s p more = more
+compile-stmts-μ-loop sheet text list₀ notes₀ book₀ st₀ base at left p₀ more₀ list notes book st p more = more
 
--- src/stmt.rt:137:9
+-- src/stmt.rt:150:9
 compile-stmts-read-payload-requires : (t : ℕ) → compile-stmts-lts.Need-read-payload-requires (
   read-payload-reads.Asked,
   read-payload-reads.Learnt,
@@ -800,7 +800,7 @@ compile-stmts-read-payload-requires : (t : ℕ) → compile-stmts-lts.Need-read-
 ) (compile-stmts-at t) compile-stmts.Post compile-stmts-Inv-loop compile-stmts-μ-loop
 compile-stmts-read-payload-requires t c κs = search needs
 
--- src/stmt.rt:141:5
+-- src/stmt.rt:153:5
 compile-stmts-loop-holds : (t : ℕ) → compile-stmts-lts.Need-loop-holds (
   read-payload-reads.Asked,
   read-payload-reads.Learnt,
@@ -809,7 +809,7 @@ compile-stmts-loop-holds : (t : ℕ) → compile-stmts-lts.Need-loop-holds (
 ) (compile-stmts-at t) compile-stmts.Post compile-stmts-Inv-loop compile-stmts-μ-loop
 compile-stmts-loop-holds t c = (refl, refl, refl, refl, refl)
 
--- src/stmt.rt:142:13
+-- src/stmt.rt:154:9
 compile-stmts-compile-stmt-requires : (t : ℕ) → compile-stmts-lts.Need-compile-stmt-requires (
   read-payload-reads.Asked,
   read-payload-reads.Learnt,
@@ -818,7 +818,7 @@ compile-stmts-compile-stmt-requires : (t : ℕ) → compile-stmts-lts.Need-compi
 ) (compile-stmts-at t) compile-stmts.Post compile-stmts-Inv-loop compile-stmts-μ-loop
 compile-stmts-compile-stmt-requires t c κs = omega arith
 
--- src/stmt.rt:145:9
+-- src/stmt.rt:155:9
 compile-stmts-sub-more : (t : ℕ) → compile-stmts-lts.Need-sub-more (
   read-payload-reads.Asked,
   read-payload-reads.Learnt,
@@ -827,7 +827,7 @@ compile-stmts-sub-more : (t : ℕ) → compile-stmts-lts.Need-sub-more (
 ) (compile-stmts-at t) compile-stmts.Post compile-stmts-Inv-loop compile-stmts-μ-loop
 compile-stmts-sub-more t c = omega arith
 
--- src/stmt.rt:141:5
+-- src/stmt.rt:153:5
 compile-stmts-loop-less : (t : ℕ) → compile-stmts-lts.Need-loop-less (
   read-payload-reads.Asked,
   read-payload-reads.Learnt,
@@ -836,16 +836,16 @@ compile-stmts-loop-less : (t : ℕ) → compile-stmts-lts.Need-loop-less (
 ) (compile-stmts-at t) compile-stmts.Post compile-stmts-Inv-loop compile-stmts-μ-loop
 compile-stmts-loop-less t c = omega arith
 
--- src/stmt.rt:141:5
+-- src/stmt.rt:153:5
 compile-stmts-loop-again : (t : ℕ) → compile-stmts-lts.Need-loop-again (
   read-payload-reads.Asked,
   read-payload-reads.Learnt,
   compile-stmt-below t,
   compile-stmt.Post,
 ) (compile-stmts-at t) compile-stmts.Post compile-stmts-Inv-loop compile-stmts-μ-loop
-compile-stmts-loop-again t c = ((c .before .before .before .before .before .before .before .compile-stmt .kept .1 .1 .0) ∙ (c .before .before .before .before .before .before .before .before .before .before .before .before .loop .inv .0), (c .before .before .before .before .before .before .before .compile-stmt .kept .1 .1 .1 .0) ∙ (c .before .before .before .before .before .before .before .before .before .before .before .before .loop .inv .1), (c .before .before .before .before .before .before .before .compile-stmt .kept .1 .1 .1 .1 .0) ∙ (c .before .before .before .before .before .before .before .before .before .before .before .before .loop .inv .2), more-place _ _ _ _ _ _ _ _ _ _ (c .before .before .before .before .before .before .before .before .before .before .before .loop-test .taken) (c .before .before .before .before .before .before .before .compile-stmt .ensures) (c .before .before .before .before .before .before .before .before .before .before .before .before .loop .inv .3), more-stmts _ _ _ _ _ _ _ _ _ _ (c .before .before .before .before .before .before .before .before .before .before .before .loop-test .taken) (c .before .before .before .before .before .before .before .compile-stmt .ensures) (c .before .before .before .before .before .before .before .before .before .before .before .before .loop .inv .4))
+compile-stmts-loop-again t c = ((c .before .before .before .before .before .before .compile-stmt .kept .1 .1 .0) ∙ (c .before .before .before .before .before .before .before .before .before .before .before .before .loop .inv .0), (c .before .before .before .before .before .before .compile-stmt .kept .1 .1 .1 .0) ∙ (c .before .before .before .before .before .before .before .before .before .before .before .before .loop .inv .1), (c .before .before .before .before .before .before .compile-stmt .kept .1 .1 .1 .1 .0) ∙ (c .before .before .before .before .before .before .before .before .before .before .before .before .loop .inv .2), more-place _ _ _ _ _ _ _ _ _ _ (c .before .before .before .before .before .before .before .before .before .before .before .loop-test .taken) (c .before .before .before .before .before .before .compile-stmt .ensures) (c .before .before .before .before .before .before .before .before .before .before .before .before .loop .inv .3), more-stmts _ _ _ _ _ _ _ _ _ _ (c .before .before .before .before .before .before .before .before .before .before .before .loop-test .taken) (c .before .before .before .before .before .before .compile-stmt .ensures) (c .before .before .before .before .before .before .before .before .before .before .before .before .loop .inv .4))
 
--- src/stmt.rt:124:1
+-- src/stmt.rt:137:1
 compile-stmts-same-length : (t : ℕ) → compile-stmts-lts.Need-same-length (
   read-payload-reads.Asked,
   read-payload-reads.Learnt,
@@ -854,7 +854,7 @@ compile-stmts-same-length : (t : ℕ) → compile-stmts-lts.Need-same-length (
 ) (compile-stmts-at t) compile-stmts.Post compile-stmts-Inv-loop compile-stmts-μ-loop
 compile-stmts-same-length t c = (c .before .loop .inv .0)
 
--- src/stmt.rt:124:1
+-- src/stmt.rt:137:1
 compile-stmts-same-length-2 : (t : ℕ) → compile-stmts-lts.Need-same-length-2 (
   read-payload-reads.Asked,
   read-payload-reads.Learnt,
@@ -863,7 +863,7 @@ compile-stmts-same-length-2 : (t : ℕ) → compile-stmts-lts.Need-same-length-2
 ) (compile-stmts-at t) compile-stmts.Post compile-stmts-Inv-loop compile-stmts-μ-loop
 compile-stmts-same-length-2 t c = (c .before .loop .inv .1)
 
--- src/stmt.rt:124:1
+-- src/stmt.rt:137:1
 compile-stmts-same-length-3 : (t : ℕ) → compile-stmts-lts.Need-same-length-3 (
   read-payload-reads.Asked,
   read-payload-reads.Learnt,
@@ -872,7 +872,7 @@ compile-stmts-same-length-3 : (t : ℕ) → compile-stmts-lts.Need-same-length-3
 ) (compile-stmts-at t) compile-stmts.Post compile-stmts-Inv-loop compile-stmts-μ-loop
 compile-stmts-same-length-3 t c = (c .before .loop .inv .2)
 
--- src/stmt.rt:124:1
+-- src/stmt.rt:137:1
 compile-stmts-returns : (t : ℕ) → compile-stmts-lts.Need-returns (
   read-payload-reads.Asked,
   read-payload-reads.Learnt,

@@ -1,13 +1,14 @@
 use Rattle.transfers.proofs.LoadLaws.{plus-first, plus-none}
-use borrow.Author.Needs.{needs}
 use Rattle.transfers.proofs.loads.plus_behind.Statement.{statement}
 use Rattle.transfers.proofs.loads.plus_behind.Tie as tie
 use Rattle.transfers.proofs.loads.plus_behind.Reads as reads
 use Rattle.transfers.proofs.loads.plus_behind.Lts as lts
 
+-- src/loads.rt:38:1
 returns : tie.Need-returns
 returns c = plus-first (c .before .args .b) (c .if1 .taken)
 
+-- src/loads.rt:38:1
 returns-2 : tie.Need-returns-2
 returns-2 c = plus-none (c .before .args .b) (c .if1 .left)
 
