@@ -1,3 +1,5 @@
 // The quick walk's lower half: leaves and expressions.
+#![tactic(auto)]
+
 pub mod expr;
 pub mod leaf;

@@ -14,7 +14,7 @@ use accept_exprs::leaf::{
 use recorder::word::payload_at;
 
 // What a list of a statement holds, but for IF's and for expressions alone.
-#[derive(Drop)]
+#[derive(Clone, Copy)]
 pub enum Listed {
     Datum,
     Spec,

@@ -1,4 +1,6 @@
 // The refusals 1 to 8 of a whole input: the form walked quickly, and again for its first offence where it is not accepted.
+#![tactic(auto)]
+
 ghost use Rattle.std.specs.Prelude.{◌≡◌};
 ghost use Rattle.recorder.specs.Word.{either};
 ghost use Rattle.sheet.specs.Form.{between};

@@ -12,7 +12,7 @@ use recorder::codegen::{
 use recorder::word::{Range, kind_at, word_at, word_of};
 
 // A number: m × 2^(e−160), zero at e 0.
-#[derive(Drop)]
+#[derive(Clone, Copy)]
 pub struct Number {
     pub e: u32,
     pub m: u32,

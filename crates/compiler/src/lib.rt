@@ -1,4 +1,6 @@
 // The compiler of plot forms: a sheet and its text, lent to be read; list, notes, book and work, lent to be written.
+#![tactic(auto)]
+
 ghost use Rattle.std.specs.Prelude.{◌≡◌, ◌*◌, ◌<◌, length, replicate};
 ghost use Rattle.recorder.specs.Word.{payload_at};
 ghost use Rattle.recorder.specs.Mem.{mem};
@@ -9,7 +11,7 @@ ghost use Rattle.compiler.specs.Answered.{outcome_of};
 use recorder::codegen::{BOOK_FULL, CELLS, ENTRIES, LIST_FULL, NOTES, NOTES_FULL, RECORDS, St};
 
 // The refusal, 0 for none, its place in the sheet, and the numbers of records, notes and book entries.
-#[derive(Drop)]
+#[derive(Clone, Copy)]
 pub struct Answer {
     pub refusal: u32,
     pub place: usize,

@@ -12,14 +12,14 @@ use rules::tables::Wants;
 use rules::types::Type;
 
 // What an expression leaves besides the state: the place behind it, its kind.
-#[derive(Drop)]
+#[derive(Clone, Copy)]
 pub struct TypedBehind {
     pub at: usize,
     pub ty: Type,
 }
 
 // An operator's range and kind, and the place behind them.
-#[derive(Drop)]
+#[derive(Clone, Copy)]
 struct Op {
     range: Range,
     kind: u32,
@@ -27,7 +27,7 @@ struct Op {
 }
 
 // A word's payload, and the place behind the word.
-#[derive(Drop)]
+#[derive(Clone, Copy)]
 pub struct Payload {
     pub value: u32,
     pub at: usize,

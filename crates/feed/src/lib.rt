@@ -1,10 +1,12 @@
 // Numbers from standard input and rows of numbers to standard output, for the programs. Little endian.
+#![tactic(auto)]
+
 ghost use Rattle.std.specs.Prelude.{◌≡◌, ◌+◌, ◌*◌, ◌≤◌, min};
 
 use libc::{STDIN_FILENO, STDOUT_FILENO};
 
 // A number that was read, or the end of the input.
-#[derive(Drop)]
+#[derive(Clone, Copy)]
 enum Read {
     Number(u32),
     End,

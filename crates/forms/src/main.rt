@@ -1,5 +1,7 @@
 // Reads inputs in the replay format from standard input, back to back, and prints each one's refusal and place.
 // An input is six counts (words, units, list, notes, book, work), then the words and the units, little endian.
+#![tactic(auto)]
+
 use libc::STDOUT_FILENO;
 use sheet::form::Checked;
 

@@ -1,4 +1,6 @@
 // The library's edge: `compile` for programs in C or Rust. include/hollupsa.h declares it and says its contract in words.
+#![tactic(auto)]
+
 ghost use Rattle.std.specs.Prelude.{length};
 ghost use Rattle.rules.specs.Outcome.{lengths, outcome};
 ghost use Rattle.hollupsa.specs.Edge.{Leaves};

@@ -1,2 +1,4 @@
 // Statements compiled: INPUT of compiler.rs.
+#![tactic(auto)]
+
 pub mod input;

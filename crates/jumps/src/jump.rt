@@ -17,14 +17,14 @@ use rules::types::Type;
 use sheet::form::Shape;
 
 // A label and its range, which may be absent.
-#[derive(Drop)]
+#[derive(Clone, Copy)]
 pub enum OptTarget {
     Given(Range, Label),
     Absent,
 }
 
 // A label that may be absent.
-#[derive(Drop)]
+#[derive(Clone, Copy)]
 pub enum OptLabel {
     Given(Label),
     Absent,

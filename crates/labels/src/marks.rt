@@ -11,14 +11,14 @@ use recorder::label::{Addr, DatumIndex, Label};
 use recorder::word::word_at;
 
 // A target: the address of a line, or the label is nowhere.
-#[derive(Drop)]
+#[derive(Clone, Copy)]
 pub enum Target {
     At(Addr),
     Nowhere,
 }
 
 // A DATA index, or the label has no datum.
-#[derive(Drop)]
+#[derive(Clone, Copy)]
 pub enum Start {
     From(DatumIndex),
     NoData,

@@ -1,4 +1,6 @@
 // Document 01's program: reads the word count, the unit count, the words and the units of one input and prints its listing.
+#![tactic(auto)]
+
 ghost use Rattle.std.specs.Prelude.{◌≡◌, ◌≤◌, length};
 ghost use Rattle.rules.specs.Outcome.{lengths, outcome};
 ghost use Rattle.compiler.specs.Answered.{outcome_of};

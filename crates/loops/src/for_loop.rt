@@ -17,7 +17,7 @@ use recorder::word::Range;
 use rules::types::Type;
 
 // The place behind FOR's step, and whether it was there.
-#[derive(Drop)]
+#[derive(Clone, Copy)]
 struct Step {
     at: usize,
     flag: u32,

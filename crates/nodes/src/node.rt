@@ -12,14 +12,14 @@ use recorder::word::Range;
 use rules::types::Type;
 
 // A range that may be absent.
-#[derive(Drop)]
+#[derive(Clone, Copy)]
 pub enum OptRange {
     Given(Range),
     Absent,
 }
 
 // A symbol's number and its kind.
-#[derive(Drop)]
+#[derive(Clone, Copy)]
 pub struct Sym {
     pub number: u32,
     pub ty: Type,

@@ -1,3 +1,5 @@
 // Statements compiled: PRINT and WRITE of compiler.rs.
+#![tactic(auto)]
+
 pub mod prints;
 pub mod writes;

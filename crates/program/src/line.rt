@@ -11,7 +11,7 @@ use recorder::label::Addr;
 
 // How far the lines are compiled: where the next one is, how many labelled ones there are so far, the last label plus 1 (0 before
 // the first), and where the next line begins in the text.
-#[derive(Drop)]
+#[derive(Clone, Copy)]
 pub struct Lines {
     pub at: usize,
     pub marks: usize,

@@ -60,14 +60,14 @@ pub const NOTES_FULL: usize = 10;
 pub const BOOK_FULL: usize = 11;
 
 // On the descent to a name: an entry of the tree, and the bits of the name's hash that are left, the next one the highest.
-#[derive(Drop)]
+#[derive(Clone, Copy)]
 pub struct Descent {
     pub at: usize,
     pub bits: u32,
 }
 
 // Where the descent to a name stops, whether that entry is the name, and the name's tag.
-#[derive(Drop)]
+#[derive(Clone, Copy)]
 pub struct Stop {
     pub descent: Descent,
     pub named: bool,
@@ -75,7 +75,7 @@ pub struct Stop {
 }
 
 // What the search for a name finds: where its descent ends, its entry, or how many are known, and its tag.
-#[derive(Drop)]
+#[derive(Clone, Copy)]
 pub struct Found {
     pub descent: Descent,
     pub entry: usize,
@@ -83,7 +83,7 @@ pub struct Found {
 }
 
 // What resolution reads of a record.
-#[derive(Drop)]
+#[derive(Clone, Copy)]
 pub struct Looked {
     pub call: u32,
     pub line: u32,

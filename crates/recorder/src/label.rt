@@ -3,15 +3,15 @@ ghost use Rattle.std.specs.Prelude.{◌≡◌};
 ghost use Rattle.recorder.specs.Word.{label_at};
 
 // A line's label.
-#[derive(Drop)]
+#[derive(Clone, Copy)]
 pub struct Label(pub u16);
 
 // The address of a record: the number of records before it.
-#[derive(Drop)]
+#[derive(Clone, Copy)]
 pub struct Addr(pub u32);
 
 // The number of a datum among the data.
-#[derive(Drop)]
+#[derive(Clone, Copy)]
 pub struct DatumIndex(pub u32);
 
 // The label that a word holds.

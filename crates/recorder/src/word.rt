@@ -3,7 +3,7 @@ ghost use Rattle.std.specs.Prelude.{◌≡◌, get_or};
 ghost use Rattle.recorder.specs.Word.{kind, payload, kind_at, payload_at, word_of, next, range_of, range_at, range_word};
 
 // A range within its line: from start up to, but without, end.
-#[derive(Drop)]
+#[derive(Clone, Copy)]
 pub struct Range {
     pub start: u16,
     pub end: u16,

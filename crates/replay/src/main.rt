@@ -1,6 +1,8 @@
 // Reads inputs in the replay format from standard input, back to back, and prints each one's whole answer.
 // An input is six counts (words, units, and the lengths of list, notes, book and work in words), then the words and the units.
 // An answer is a line of five numbers, then a line for each record, note and book entry.
+#![tactic(auto)]
+
 use compiler::Answer;
 
 fn show(r: Answer, list: &[u32], notes: &[u32], book: &[u32]) {

@@ -7,7 +7,7 @@ use recorder::word::Range;
 
 // Where a name starts in the text, how many units it has before a blank or its sigil, the sigil's unit or 0, its kind,
 // and how many units are lost: those from the first blank up to the sigil or the end.
-#[derive(Drop)]
+#[derive(Clone, Copy)]
 pub struct Name {
     pub start: u32,
     pub len: u32,

@@ -5,7 +5,7 @@ ghost use Rattle.rules.specs.Tables.{signature_for, signature_of, wanted, draw_a
 use crate::types::Type;
 
 // The signatures that functions have.
-#[derive(Drop)]
+#[derive(Clone, Copy)]
 pub enum Sig {
     RealOfReal,
     RealOfText,
@@ -16,7 +16,7 @@ pub enum Sig {
 }
 
 // Which kinds the arguments of a list are to have: a function's, numbers however many, or a draw statement's.
-#[derive(Drop)]
+#[derive(Clone, Copy)]
 pub enum Wants {
     Func(u32),
     Every,

@@ -2,7 +2,7 @@
 ghost use Rattle.std.specs.Prelude.{◌≡◌};
 ghost use Rattle.rules.specs.Types.{matches_type, exact_matches, sigil_unit, rvalue_type, sigil_type, type_number};
 
-#[derive(Drop)]
+#[derive(Clone, Copy)]
 pub enum Type {
     Integer,
     Real,

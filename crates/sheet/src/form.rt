@@ -5,7 +5,7 @@ ghost use Rattle.sheet.specs.Check.{offence_number, offence_place, refusal_numbe
 ghost use Rattle.sheet.specs.Parts.{item_of, times_of, field_of, field_numbers, field_starts, case_of};
 
 // Which statements or expressions may stand at a place.
-#[derive(Drop)]
+#[derive(Clone, Copy)]
 pub enum Sort {
     Expr,
     Place,
@@ -16,7 +16,7 @@ pub enum Sort {
 // What a field may hold: nothing, a word of a kind with a payload below a number, a range, a name's range, absent or a
 // name's range, a range with a unit, a statement or an expression, a number's value, absent or a label, INPUT's source,
 // PRINT's element, a datum.
-#[derive(Drop)]
+#[derive(Clone, Copy)]
 pub enum Item {
     Nothing,
     Word(u32, u32),
@@ -33,7 +33,7 @@ pub enum Item {
 }
 
 // How often: once, absent or once, a count and so many, a count of at least one, absent or a count.
-#[derive(Drop)]
+#[derive(Clone, Copy)]
 pub enum Times {
     Once,
     Optional,
@@ -43,7 +43,7 @@ pub enum Times {
 }
 
 // A field of a statement or an expression: one item or two, so many times.
-#[derive(Drop)]
+#[derive(Clone, Copy)]
 pub struct Field {
     pub times: Times,
     pub first: Item,
@@ -51,7 +51,7 @@ pub struct Field {
 }
 
 // The offences 4 to 8 of document 01, each with its place.
-#[derive(Drop)]
+#[derive(Clone, Copy)]
 pub enum Offence {
     BadWord(usize),
     TooDeep(usize),
@@ -61,21 +61,21 @@ pub enum Offence {
 }
 
 // What a walk over a part of the sheet finds: the place behind it, or the first offence.
-#[derive(Drop)]
+#[derive(Clone, Copy)]
 pub enum Walk {
     Behind(usize),
     Stops(Offence),
 }
 
 // Whether a line's head has a label.
-#[derive(Drop)]
+#[derive(Clone, Copy)]
 pub enum Marked {
     Labelled,
     Absent,
 }
 
 // What statements of one shape have in common: their fields, and how they are compiled.
-#[derive(Drop)]
+#[derive(Clone, Copy)]
 pub enum Shape {
     Rem,
     NoOp,
@@ -111,14 +111,14 @@ pub enum Shape {
 }
 
 // Where a line's units lie in the text: they begin at base, and are so many.
-#[derive(Drop)]
+#[derive(Clone, Copy)]
 pub struct Line {
     pub base: usize,
     pub len: usize,
 }
 
 // The answer to a whole input: document 01's refusals 1 to 8, or none of them.
-#[derive(Drop)]
+#[derive(Clone, Copy)]
 pub enum Checked {
     Accepted,
     TooLong,

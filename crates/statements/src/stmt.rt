@@ -11,7 +11,7 @@ use recorder::word::Range;
 use rules::types::Type;
 
 // What an IF's condition and jump leave besides the state: the place behind the condition, the jump's address.
-#[derive(Drop)]
+#[derive(Clone, Copy)]
 struct Branch {
     at: usize,
     jump: Addr,
