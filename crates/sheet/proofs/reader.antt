@@ -1,3 +1,1 @@
 pub mod Rest
-pub mod Parts
-pub mod Made

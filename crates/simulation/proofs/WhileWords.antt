@@ -1,5 +1,5 @@
 -- The words follow the run with a stack.
-use mathlib.Core.Path.{◌≡◌, refl, ap, ◌∙◌}
+use mathlib.Core.Path.{◌≡◌, refl, ap, subst, sym, ◌∙◌}
 use mathlib.Core.List.{List, [], ◌∷◌, ◌++◌, append_assoc, append-nil}
 use mathlib.Core.Bool.{Bool, true, false}
 use Prim.Native.Nat.{ℕ, zero, suc, ◌+◌, ◌*◌, ◌-◌, ◌≤◌, ◌<◌}
@@ -184,7 +184,7 @@ unknown_step : (ps : List Rec) (ws : List ℕ) (k : ℕ) (r : Rec) (rs : List Re
     → (c : Bool) → is_while r ≡ c → (d : Bool) → is_wend r ≡ d → Unknown (step_p ps ws k r ++ rs) (step_w ws k r)
 unfolding step_p step_w Below Unknown
 unknown_step ps ws k r rs u n b f true e d g =
-    rw (step_p_plain ps ws k r e, e, seam ps r rs) (ap (λ (z : Rec). z.b) (at_seam ps r rs k n) ∙ fresh_while r f e, u)
+    rw (step_p_plain ps ws k r e, e, seam ps r rs) (ap (λ (z : Rec). z.b) (at_seam ps r rs k n) ∙ fresh_while r f e, subst (λ (z : List Rec). Unknown z ws) (sym (seam ps r rs)) u)
 unknown_step ps ws k r rs u n b f false e false g = rw (step_p_other ps ws k r e g, e, g, seam ps r rs) u
 unknown_step ps [] k r rs u n b f false e true g = rw (e, g) refl
 unknown_step ps (w ∷ ws) k r rs u n b f false e true g =

@@ -1,0 +1,13 @@
+use borrow.Author.Tests.{eq-eqb, ne_eqb}
+use mathlib.Core.Bool.{not}
+use mathlib.Core.Path.{ap}
+use Rattle.closing.proofs.closing.sigil_of.Goals as goal
+
+pub returns-then-c-eq1 : goal.returns-then-c-eq1
+returns-then-c-eq1 c = simp (eq-eqb _ _ c.if-c-eq1.true)
+
+pub returns-then-c-eq2 : goal.returns-then-c-eq2
+returns-then-c-eq2 c = simp (ne_eqb _ _ c.if-c-eq1.false, eq-eqb _ _ c.if-c-eq2.true)
+
+pub returns : goal.returns
+returns c = simp (ne_eqb _ _ c.if-c-eq1.false, ne_eqb _ _ c.if-c-eq2.false)
