@@ -10,7 +10,7 @@ use recorder::word::payload_at;
 use sheet::form::Sort;
 
 // A count of at least one, and so many expressions.
-#[cycle(expr_ends_exprs_ends)]
+#[cycle(ends_cycle)]
 pub fn exprs_ends(
     sheet: &&[u32],
     text: &&[u16],
@@ -39,7 +39,7 @@ pub fn exprs_ends(
 }
 
 // An expression, with so many depths left, its own among them.
-#[cycle(expr_ends_exprs_ends)]
+#[cycle(ends_cycle)]
 pub fn expr_ends(
     sheet: &&[u32],
     text: &&[u16],

@@ -14,7 +14,7 @@ use sheet::form::Sort;
 use sheet::leaf::take_word;
 
 // IF: its condition, its branches.
-#[cycle(if_ends_stmt_ends_stmts_ends)]
+#[cycle(ends_cycle)]
 fn if_ends(sheet: &&[u32], text: &&[u16], base: usize, len: usize, left: usize, at: usize) -> usize
     ensures { ReachesFields sheet.now.now text.now.now base len left (shape_fields If) at result }
 {
@@ -33,7 +33,7 @@ fn if_ends(sheet: &&[u32], text: &&[u16], base: usize, len: usize, left: usize, 
 }
 
 // A statement, with so many depths left, its own among them.
-#[cycle(if_ends_stmt_ends_stmts_ends)]
+#[cycle(ends_cycle)]
 fn stmt_ends(
     sheet: &&[u32],
     text: &&[u16],
@@ -67,7 +67,7 @@ fn stmt_ends(
 }
 
 // A count, and so many statements.
-#[cycle(if_ends_stmt_ends_stmts_ends)]
+#[cycle(ends_cycle)]
 fn stmts_ends(
     sheet: &&[u32],
     text: &&[u16],

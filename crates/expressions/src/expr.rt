@@ -70,7 +70,7 @@ fn mantissa_at(sheet: &[u32], at: usize) -> u32
     h % 65536 * 65536 + l % 65536
 }
 
-#[cycle(compile_args_compile_expr)]
+#[cycle(expr_cycle)]
 pub fn compile_expr(
     sheet: &&[u32],
     text: &&[u16],
@@ -203,7 +203,7 @@ pub fn compile_expr(
 }
 
 // So many expressions, each with a note where its kind is not the one wanted.
-#[cycle(compile_args_compile_expr)]
+#[cycle(expr_cycle)]
 pub fn compile_args(
     sheet: &&[u32],
     text: &&[u16],

@@ -65,7 +65,7 @@ fn else_head(list: &mut [u32], st: &mut St, jump: Addr, r: Range)
     end_here(list, st, jump);
 }
 
-#[cycle(compile_if_compile_stmt_compile_stmts)]
+#[cycle(stmt_cycle)]
 fn compile_if(
     sheet: &&[u32],
     text: &&[u16],
@@ -94,7 +94,7 @@ fn compile_if(
     y
 }
 
-#[cycle(compile_if_compile_stmt_compile_stmts)]
+#[cycle(stmt_cycle)]
 pub fn compile_stmt(
     sheet: &&[u32],
     text: &&[u16],
@@ -136,7 +136,7 @@ pub fn compile_stmt(
 }
 
 // The counted statements at a place.
-#[cycle(compile_if_compile_stmt_compile_stmts)]
+#[cycle(stmt_cycle)]
 pub fn compile_stmts(
     sheet: &&[u32],
     text: &&[u16],

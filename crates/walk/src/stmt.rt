@@ -9,7 +9,7 @@ use sheet::form::{Field, Item, Line, Offence, Sort, Times, Walk};
 use sheet::leaf::take_word;
 
 // INPUT's source: the keyboard, the keyboard and a prompt, or a file.
-#[cycle(body_form_element_form_field_form_fields_form_item_form_list_form_node_form_pair_form_source_form)]
+#[cycle(form_cycle)]
 fn source_form(sheet: &[u32], text: &[u16], line: Line, left: usize, at: usize) -> Walk
     ensures { result ≡ item_form sheet.now text.now line (node_form sheet.now text.now line left) Item.Source at }
 {
@@ -28,7 +28,7 @@ fn source_form(sheet: &[u32], text: &[u16], line: Line, left: usize, at: usize) 
 }
 
 // PRINT's element: an expression, or the range of a comma or a semicolon.
-#[cycle(body_form_element_form_field_form_fields_form_item_form_list_form_node_form_pair_form_source_form)]
+#[cycle(form_cycle)]
 fn element_form(sheet: &[u32], text: &[u16], line: Line, left: usize, at: usize) -> Walk
     ensures { result ≡ item_form sheet.now text.now line (node_form sheet.now text.now line left) Item.Element at }
 {
@@ -42,7 +42,7 @@ fn element_form(sheet: &[u32], text: &[u16], line: Line, left: usize, at: usize)
     sheet::leaf::range_form(sheet, line, p)
 }
 
-#[cycle(body_form_element_form_field_form_fields_form_item_form_list_form_node_form_pair_form_source_form)]
+#[cycle(form_cycle)]
 fn item_form(sheet: &[u32], text: &[u16], line: Line, left: usize, item: Item, at: usize) -> Walk
     ensures { result ≡ item_form sheet.now text.now line (node_form sheet.now text.now line left) item at }
 {
@@ -63,7 +63,7 @@ fn item_form(sheet: &[u32], text: &[u16], line: Line, left: usize, item: Item, a
 }
 
 // One item, then another.
-#[cycle(body_form_element_form_field_form_fields_form_item_form_list_form_node_form_pair_form_source_form)]
+#[cycle(form_cycle)]
 fn pair_form(
     sheet: &[u32],
     text: &[u16],
@@ -83,7 +83,7 @@ fn pair_form(
 }
 
 // A count, and so many pairs.
-#[cycle(body_form_element_form_field_form_fields_form_item_form_list_form_node_form_pair_form_source_form)]
+#[cycle(form_cycle)]
 fn list_form(
     sheet: &[u32],
     text: &[u16],
@@ -113,7 +113,7 @@ fn list_form(
 }
 
 // A field: its pair, so many times.
-#[cycle(body_form_element_form_field_form_fields_form_item_form_list_form_node_form_pair_form_source_form)]
+#[cycle(form_cycle)]
 fn field_form(sheet: &[u32], text: &[u16], line: Line, left: usize, f: Field, at: usize) -> Walk
     ensures { result ≡ field_form sheet.now text.now line (node_form sheet.now text.now line left) f at }
 {
@@ -148,7 +148,7 @@ fn field_form(sheet: &[u32], text: &[u16], line: Line, left: usize, f: Field, at
 }
 
 // The fields of the table from i to e.
-#[cycle(body_form_element_form_field_form_fields_form_item_form_list_form_node_form_pair_form_source_form)]
+#[cycle(form_cycle)]
 fn fields_form(
     sheet: &[u32],
     text: &[u16],
@@ -175,7 +175,7 @@ fn fields_form(
 }
 
 // What stands behind a node's head: its own range and its fields.
-#[cycle(body_form_element_form_field_form_fields_form_item_form_list_form_node_form_pair_form_source_form)]
+#[cycle(form_cycle)]
 fn body_form(
     sheet: &[u32],
     text: &[u16],
@@ -199,7 +199,7 @@ fn body_form(
 }
 
 // A statement or an expression, with so many depths left, its own among them.
-#[cycle(body_form_element_form_field_form_fields_form_item_form_list_form_node_form_pair_form_source_form)]
+#[cycle(form_cycle)]
 pub fn node_form(sheet: &[u32], text: &[u16], line: Line, left: usize, c: Sort, at: usize) -> Walk
     ensures { result ≡ node_form sheet.now text.now line left c at }
 {
@@ -314,7 +314,7 @@ pub fn sheet_form(sheet: &[u32], text: &[u16]) -> Walk
     lines_form(sheet, text, recorder::word::payload_at(sheet, 0), p)
 }
 
-#[cycle(skip_element_skip_field_skip_fields_skip_item_skip_list_skip_node_skip_pair_skip_source)]
+#[cycle(skip_cycle)]
 pub fn skip_source(sheet: &[u32], left: usize, at: usize) -> usize
     ensures { result ≡ skip_item sheet.now (skip_node sheet.now left) Item.Source at }
 {
@@ -329,7 +329,7 @@ pub fn skip_source(sheet: &[u32], left: usize, at: usize) -> usize
     skip_node(sheet, left, Sort::Expr, p)
 }
 
-#[cycle(skip_element_skip_field_skip_fields_skip_item_skip_list_skip_node_skip_pair_skip_source)]
+#[cycle(skip_cycle)]
 fn skip_element(sheet: &[u32], left: usize, at: usize) -> usize
     ensures { result ≡ skip_item sheet.now (skip_node sheet.now left) Item.Element at }
 {
@@ -341,7 +341,7 @@ fn skip_element(sheet: &[u32], left: usize, at: usize) -> usize
     recorder::word::behind(sheet, p)
 }
 
-#[cycle(skip_element_skip_field_skip_fields_skip_item_skip_list_skip_node_skip_pair_skip_source)]
+#[cycle(skip_cycle)]
 fn skip_item(sheet: &[u32], left: usize, item: Item, at: usize) -> usize
     ensures { result ≡ skip_item sheet.now (skip_node sheet.now left) item at }
 {
@@ -368,7 +368,7 @@ fn skip_item(sheet: &[u32], left: usize, item: Item, at: usize) -> usize
     }
 }
 
-#[cycle(skip_element_skip_field_skip_fields_skip_item_skip_list_skip_node_skip_pair_skip_source)]
+#[cycle(skip_cycle)]
 fn skip_pair(sheet: &[u32], left: usize, a: Item, b: Item, at: usize) -> usize
     ensures { result ≡ skip_pair sheet.now (skip_node sheet.now left) a b at }
 {
@@ -376,7 +376,7 @@ fn skip_pair(sheet: &[u32], left: usize, a: Item, b: Item, at: usize) -> usize
     skip_item(sheet, left, b, p)
 }
 
-#[cycle(skip_element_skip_field_skip_fields_skip_item_skip_list_skip_node_skip_pair_skip_source)]
+#[cycle(skip_cycle)]
 fn skip_list(sheet: &[u32], left: usize, a: Item, b: Item, at: usize) -> usize
     ensures { result ≡ skip_list sheet.now (skip_pair sheet.now (skip_node sheet.now left) a b) at }
 {
@@ -389,7 +389,7 @@ fn skip_list(sheet: &[u32], left: usize, a: Item, b: Item, at: usize) -> usize
     p
 }
 
-#[cycle(skip_element_skip_field_skip_fields_skip_item_skip_list_skip_node_skip_pair_skip_source)]
+#[cycle(skip_cycle)]
 fn skip_field(sheet: &[u32], left: usize, f: Field, at: usize) -> usize
     ensures { result ≡ skip_field sheet.now (skip_node sheet.now left) f at }
 {
@@ -417,7 +417,7 @@ fn skip_field(sheet: &[u32], left: usize, f: Field, at: usize) -> usize
     }
 }
 
-#[cycle(skip_element_skip_field_skip_fields_skip_item_skip_list_skip_node_skip_pair_skip_source)]
+#[cycle(skip_cycle)]
 fn skip_fields(sheet: &[u32], left: usize, i: usize, e: usize, at: usize) -> usize
     ensures { result ≡ skip_fields sheet.now (skip_node sheet.now left) (fields_from i (e - i)) at }
 {
@@ -432,7 +432,7 @@ fn skip_fields(sheet: &[u32], left: usize, i: usize, e: usize, at: usize) -> usi
 }
 
 // The place behind a statement or an expression, found by reading its own children.
-#[cycle(skip_element_skip_field_skip_fields_skip_item_skip_list_skip_node_skip_pair_skip_source)]
+#[cycle(skip_cycle)]
 pub fn skip_node(sheet: &[u32], left: usize, c: Sort, at: usize) -> usize
     ensures { result ≡ skip_node sheet.now left c at }
 {

@@ -13,31 +13,31 @@ use borrow.Fn.Kinds.{In}
 use borrow.Fn.PlainCycle.{Measures, is, falls, and}
 use Rattle.walk.proofs.stmt.body_form.Reads as body-form
 use Rattle.walk.proofs.stmt.body_form.Kinds as body-form-kinds
-use Rattle.walk.proofs.stmt.+body_form_element_form_field_form_fields_form_item_form_list_form_node_form_pair_form_source_form.Lts-body_form as body-form-lts
+use Rattle.walk.proofs.stmt.+form_cycle.Lts-body_form as body-form-lts
 use Rattle.walk.proofs.stmt.element_form.Reads as element-form
 use Rattle.walk.proofs.stmt.element_form.Kinds as element-form-kinds
-use Rattle.walk.proofs.stmt.+body_form_element_form_field_form_fields_form_item_form_list_form_node_form_pair_form_source_form.Lts-element_form as element-form-lts
+use Rattle.walk.proofs.stmt.+form_cycle.Lts-element_form as element-form-lts
 use Rattle.walk.proofs.stmt.field_form.Reads as field-form
 use Rattle.walk.proofs.stmt.field_form.Kinds as field-form-kinds
-use Rattle.walk.proofs.stmt.+body_form_element_form_field_form_fields_form_item_form_list_form_node_form_pair_form_source_form.Lts-field_form as field-form-lts
+use Rattle.walk.proofs.stmt.+form_cycle.Lts-field_form as field-form-lts
 use Rattle.walk.proofs.stmt.fields_form.Reads as fields-form
 use Rattle.walk.proofs.stmt.fields_form.Kinds as fields-form-kinds
-use Rattle.walk.proofs.stmt.+body_form_element_form_field_form_fields_form_item_form_list_form_node_form_pair_form_source_form.Lts-fields_form as fields-form-lts
+use Rattle.walk.proofs.stmt.+form_cycle.Lts-fields_form as fields-form-lts
 use Rattle.walk.proofs.stmt.item_form.Reads as item-form
 use Rattle.walk.proofs.stmt.item_form.Kinds as item-form-kinds
-use Rattle.walk.proofs.stmt.+body_form_element_form_field_form_fields_form_item_form_list_form_node_form_pair_form_source_form.Lts-item_form as item-form-lts
+use Rattle.walk.proofs.stmt.+form_cycle.Lts-item_form as item-form-lts
 use Rattle.walk.proofs.stmt.list_form.Reads as list-form
 use Rattle.walk.proofs.stmt.list_form.Kinds as list-form-kinds
-use Rattle.walk.proofs.stmt.+body_form_element_form_field_form_fields_form_item_form_list_form_node_form_pair_form_source_form.Lts-list_form as list-form-lts
+use Rattle.walk.proofs.stmt.+form_cycle.Lts-list_form as list-form-lts
 use Rattle.walk.proofs.stmt.node_form.Reads as node-form
 use Rattle.walk.proofs.stmt.node_form.Kinds as node-form-kinds
-use Rattle.walk.proofs.stmt.+body_form_element_form_field_form_fields_form_item_form_list_form_node_form_pair_form_source_form.Lts-node_form as node-form-lts
+use Rattle.walk.proofs.stmt.+form_cycle.Lts-node_form as node-form-lts
 use Rattle.walk.proofs.stmt.pair_form.Reads as pair-form
 use Rattle.walk.proofs.stmt.pair_form.Kinds as pair-form-kinds
-use Rattle.walk.proofs.stmt.+body_form_element_form_field_form_fields_form_item_form_list_form_node_form_pair_form_source_form.Lts-pair_form as pair-form-lts
+use Rattle.walk.proofs.stmt.+form_cycle.Lts-pair_form as pair-form-lts
 use Rattle.walk.proofs.stmt.source_form.Reads as source-form
 use Rattle.walk.proofs.stmt.source_form.Kinds as source-form-kinds
-use Rattle.walk.proofs.stmt.+body_form_element_form_field_form_fields_form_item_form_list_form_node_form_pair_form_source_form.Lts-source_form as source-form-lts
+use Rattle.walk.proofs.stmt.+form_cycle.Lts-source_form as source-form-lts
 use Rattle.recorder.proofs.word.payload_at.Reads as payload-at-reads
 use Rattle.sheet.proofs.leaf.datum_form.Reads as datum-form-reads
 use Rattle.sheet.proofs.leaf.head_form.Reads as head-form-reads
@@ -56,10 +56,10 @@ use Rattle.sheet.proofs.form.is_fseek.Reads as is-fseek-reads
 use Rattle.sheet.proofs.form.own_range.Reads as own-range-reads
 use Rattle.sheet.proofs.form.start_after.Reads as start-after-reads
 use Rattle.sheet.proofs.form.start_at.Reads as start-at-reads
-use Rattle.walk.proofs.stmt.+body_form_element_form_field_form_fields_form_item_form_list_form_node_form_pair_form_source_form.{
+use Rattle.walk.proofs.stmt.+form_cycle.{
   statement,
 }
-use Rattle.walk.proofs.stmt.+body_form_element_form_field_form_fields_form_item_form_list_form_node_form_pair_form_source_form.Tie.{
+use Rattle.walk.proofs.stmt.+form_cycle.Tie.{
   close,
 }
 

@@ -19,13 +19,13 @@ use borrow.Fn.Kinds.{In}
 use borrow.Fn.PlainCycle.{Measures, is, falls, and}
 use Rattle.acceptance.proofs.quick.if_ends.Reads as if-ends
 use Rattle.acceptance.proofs.quick.if_ends.Kinds as if-ends-kinds
-use Rattle.acceptance.proofs.quick.+if_ends_stmt_ends_stmts_ends.Lts-if_ends as if-ends-lts
+use Rattle.acceptance.proofs.quick.+ends_cycle.Lts-if_ends as if-ends-lts
 use Rattle.acceptance.proofs.quick.stmt_ends.Reads as stmt-ends
 use Rattle.acceptance.proofs.quick.stmt_ends.Kinds as stmt-ends-kinds
-use Rattle.acceptance.proofs.quick.+if_ends_stmt_ends_stmts_ends.Lts-stmt_ends as stmt-ends-lts
+use Rattle.acceptance.proofs.quick.+ends_cycle.Lts-stmt_ends as stmt-ends-lts
 use Rattle.acceptance.proofs.quick.stmts_ends.Reads as stmts_ends
 use Rattle.acceptance.proofs.quick.stmts_ends.Kinds as stmts-ends-kinds
-use Rattle.acceptance.proofs.quick.+if_ends_stmt_ends_stmts_ends.Lts-stmts_ends as stmts-ends-lts
+use Rattle.acceptance.proofs.quick.+ends_cycle.Lts-stmts_ends as stmts-ends-lts
 use Rattle.accept_exprs.proofs.expr.expr_ends.Reads as expr-ends-reads
 use Rattle.accept_exprs.proofs.leaf.head_ends.Reads as head-ends-reads
 use Rattle.accept_fields.proofs.field.plain_ends.Reads as plain-ends-reads
@@ -35,8 +35,8 @@ use Rattle.recorder.proofs.word.payload_at.Reads as payload-at-reads
 use Rattle.sheet.proofs.form.is_fseek.Reads as is-fseek-reads
 use Rattle.sheet.proofs.leaf.is_absent.Reads as is-absent-reads
 use Rattle.walk.proofs.shape.shape_of.Reads as shape-of-reads
-use Rattle.acceptance.proofs.quick.+if_ends_stmt_ends_stmts_ends.{statement}
-use Rattle.acceptance.proofs.quick.+if_ends_stmt_ends_stmts_ends.Tie.{close}
+use Rattle.acceptance.proofs.quick.+ends_cycle.{statement}
+use Rattle.acceptance.proofs.quick.+ends_cycle.Tie.{close}
 
 abbrev μ-if-ends : Measures 4 if-ends-kinds.ps ℕ
 μ-if-ends κs a = 3 * (length a.0.now.now - a.1.1.1.1.1.0) + 2

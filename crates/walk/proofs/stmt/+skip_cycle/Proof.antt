@@ -15,28 +15,28 @@ use borrow.Fn.Kinds.{In}
 use borrow.Fn.PlainCycle.{Measures, is, falls, and}
 use Rattle.walk.proofs.stmt.skip_element.Reads as skip-element
 use Rattle.walk.proofs.stmt.skip_element.Kinds as skip-element-kinds
-use Rattle.walk.proofs.stmt.+skip_element_skip_field_skip_fields_skip_item_skip_list_skip_node_skip_pair_skip_source.Lts-skip_element as skip-element-lts
+use Rattle.walk.proofs.stmt.+skip_cycle.Lts-skip_element as skip-element-lts
 use Rattle.walk.proofs.stmt.skip_field.Reads as skip-field
 use Rattle.walk.proofs.stmt.skip_field.Kinds as skip-field-kinds
-use Rattle.walk.proofs.stmt.+skip_element_skip_field_skip_fields_skip_item_skip_list_skip_node_skip_pair_skip_source.Lts-skip_field as skip-field-lts
+use Rattle.walk.proofs.stmt.+skip_cycle.Lts-skip_field as skip-field-lts
 use Rattle.walk.proofs.stmt.skip_fields.Reads as skip-fields
 use Rattle.walk.proofs.stmt.skip_fields.Kinds as skip-fields-kinds
-use Rattle.walk.proofs.stmt.+skip_element_skip_field_skip_fields_skip_item_skip_list_skip_node_skip_pair_skip_source.Lts-skip_fields as skip-fields-lts
+use Rattle.walk.proofs.stmt.+skip_cycle.Lts-skip_fields as skip-fields-lts
 use Rattle.walk.proofs.stmt.skip_item.Reads as skip-item
 use Rattle.walk.proofs.stmt.skip_item.Kinds as skip-item-kinds
-use Rattle.walk.proofs.stmt.+skip_element_skip_field_skip_fields_skip_item_skip_list_skip_node_skip_pair_skip_source.Lts-skip_item as skip-item-lts
+use Rattle.walk.proofs.stmt.+skip_cycle.Lts-skip_item as skip-item-lts
 use Rattle.walk.proofs.stmt.skip_list.Reads as skip-list
 use Rattle.walk.proofs.stmt.skip_list.Kinds as skip-list-kinds
-use Rattle.walk.proofs.stmt.+skip_element_skip_field_skip_fields_skip_item_skip_list_skip_node_skip_pair_skip_source.Lts-skip_list as skip-list-lts
+use Rattle.walk.proofs.stmt.+skip_cycle.Lts-skip_list as skip-list-lts
 use Rattle.walk.proofs.stmt.skip_node.Reads as skip-node
 use Rattle.walk.proofs.stmt.skip_node.Kinds as skip-node-kinds
-use Rattle.walk.proofs.stmt.+skip_element_skip_field_skip_fields_skip_item_skip_list_skip_node_skip_pair_skip_source.Lts-skip_node as skip-node-lts
+use Rattle.walk.proofs.stmt.+skip_cycle.Lts-skip_node as skip-node-lts
 use Rattle.walk.proofs.stmt.skip_pair.Reads as skip-pair
 use Rattle.walk.proofs.stmt.skip_pair.Kinds as skip-pair-kinds
-use Rattle.walk.proofs.stmt.+skip_element_skip_field_skip_fields_skip_item_skip_list_skip_node_skip_pair_skip_source.Lts-skip_pair as skip-pair-lts
+use Rattle.walk.proofs.stmt.+skip_cycle.Lts-skip_pair as skip-pair-lts
 use Rattle.walk.proofs.stmt.skip_source.Reads as skip_source
 use Rattle.walk.proofs.stmt.skip_source.Kinds as skip-source-kinds
-use Rattle.walk.proofs.stmt.+skip_element_skip_field_skip_fields_skip_item_skip_list_skip_node_skip_pair_skip_source.Lts-skip_source as skip-source-lts
+use Rattle.walk.proofs.stmt.+skip_cycle.Lts-skip_source as skip-source-lts
 use Rattle.recorder.proofs.word.behind.Reads as behind-reads
 use Rattle.recorder.proofs.word.payload_at.Reads as payload-at-reads
 use Rattle.sheet.proofs.leaf.is_absent.Reads as is-absent-reads
@@ -44,10 +44,10 @@ use Rattle.sheet.proofs.form.case_of.Reads as case-of-reads
 use Rattle.sheet.proofs.form.field_at.Reads as field-at-reads
 use Rattle.sheet.proofs.form.start_after.Reads as start-after-reads
 use Rattle.sheet.proofs.form.start_at.Reads as start-at-reads
-use Rattle.walk.proofs.stmt.+skip_element_skip_field_skip_fields_skip_item_skip_list_skip_node_skip_pair_skip_source.{
+use Rattle.walk.proofs.stmt.+skip_cycle.{
   statement,
 }
-use Rattle.walk.proofs.stmt.+skip_element_skip_field_skip_fields_skip_item_skip_list_skip_node_skip_pair_skip_source.Tie.{
+use Rattle.walk.proofs.stmt.+skip_cycle.Tie.{
   close,
 }
 

@@ -18,10 +18,10 @@ use borrow.Fn.Kinds.{In}
 use borrow.Fn.PlainCycle.{Measures, is, falls, and}
 use Rattle.accept_exprs.proofs.expr.expr_ends.Reads as expr-ends
 use Rattle.accept_exprs.proofs.expr.expr_ends.Kinds as expr-ends-kinds
-use Rattle.accept_exprs.proofs.expr.+expr_ends_exprs_ends.Lts-expr_ends as expr-ends-lts
+use Rattle.accept_exprs.proofs.expr.+ends_cycle.Lts-expr_ends as expr-ends-lts
 use Rattle.accept_exprs.proofs.expr.exprs_ends.Reads as exprs-ends
 use Rattle.accept_exprs.proofs.expr.exprs_ends.Kinds as exprs-ends-kinds
-use Rattle.accept_exprs.proofs.expr.+expr_ends_exprs_ends.Lts-exprs_ends as exprs-ends-lts
+use Rattle.accept_exprs.proofs.expr.+ends_cycle.Lts-exprs_ends as exprs-ends-lts
 use Rattle.accept_exprs.proofs.leaf.head_ends.Reads as head-ends-reads
 use Rattle.accept_exprs.proofs.leaf.non_empty_ends.Reads as non-empty-ends-reads
 use Rattle.accept_exprs.proofs.leaf.number_ends.Reads as number-ends-reads
@@ -29,8 +29,8 @@ use Rattle.accept_exprs.proofs.leaf.operator_ends.Reads as operator-ends-reads
 use Rattle.accept_exprs.proofs.leaf.optional_name_ends.Reads as optional-name-ends-reads
 use Rattle.accept_exprs.proofs.leaf.own_ends.Reads as own-ends-reads
 use Rattle.recorder.proofs.word.payload_at.Reads as payload-at-reads
-use Rattle.accept_exprs.proofs.expr.+expr_ends_exprs_ends.{statement}
-use Rattle.accept_exprs.proofs.expr.+expr_ends_exprs_ends.Tie.{close}
+use Rattle.accept_exprs.proofs.expr.+ends_cycle.{statement}
+use Rattle.accept_exprs.proofs.expr.+ends_cycle.Tie.{close}
 
 abbrev μ-expr-ends : Measures 4 expr-ends-kinds.ps ℕ
 μ-expr-ends κs a = 2 * (length a.0.now.now - a.1.1.1.1.1.0)

@@ -17,13 +17,13 @@ use borrow.Fn.Kinds.{In}
 use borrow.Fn.PlainCycle.{Measures, is, falls, and}
 use Rattle.statements.proofs.stmt.compile_if.Reads as compile-if
 use Rattle.statements.proofs.stmt.compile_if.Kinds as compile-if-kinds
-use Rattle.statements.proofs.stmt.+compile_if_compile_stmt_compile_stmts.Lts-compile_if as compile-if-lts
+use Rattle.statements.proofs.stmt.+stmt_cycle.Lts-compile_if as compile-if-lts
 use Rattle.statements.proofs.stmt.compile_stmt.Reads as compile-stmt
 use Rattle.statements.proofs.stmt.compile_stmt.Kinds as compile-stmt-kinds
-use Rattle.statements.proofs.stmt.+compile_if_compile_stmt_compile_stmts.Lts-compile_stmt as compile-stmt-lts
+use Rattle.statements.proofs.stmt.+stmt_cycle.Lts-compile_stmt as compile-stmt-lts
 use Rattle.statements.proofs.stmt.compile_stmts.Reads as compile-stmts
 use Rattle.statements.proofs.stmt.compile_stmts.Kinds as compile-stmts-kinds
-use Rattle.statements.proofs.stmt.+compile_if_compile_stmt_compile_stmts.Lts-compile_stmts as compile-stmts-lts
+use Rattle.statements.proofs.stmt.+stmt_cycle.Lts-compile_stmts as compile-stmts-lts
 use Rattle.expressions.proofs.expr.node_range.Reads as node-range-reads
 use Rattle.expressions.proofs.expr.read_payload.Reads as read-payload-reads
 use Rattle.recorder.proofs.codegen.current_addr.Reads as current-addr-reads
@@ -36,8 +36,8 @@ use Rattle.statements.proofs.stmt.else_head.Reads as else-head-reads
 use Rattle.statements.proofs.stmt.end_here.Reads as end-here-reads
 use Rattle.statements.proofs.stmt.if_head.Reads as if-head-reads
 use Rattle.walk.proofs.shape.shape_of.Reads as shape-of-reads
-use Rattle.statements.proofs.stmt.+compile_if_compile_stmt_compile_stmts.{statement}
-use Rattle.statements.proofs.stmt.+compile_if_compile_stmt_compile_stmts.Tie.{close}
+use Rattle.statements.proofs.stmt.+stmt_cycle.{statement}
+use Rattle.statements.proofs.stmt.+stmt_cycle.Tie.{close}
 
 abbrev μ-compile-if : Measures 8 compile-if-kinds.ps ℕ
 μ-compile-if κs a = 3 * a.1.1.1.1.1.1.1.1.0 + 2

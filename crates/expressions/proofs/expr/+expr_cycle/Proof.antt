@@ -16,10 +16,10 @@ use borrow.Fn.Kinds.{In}
 use borrow.Fn.PlainCycle.{Measures, is, falls, and}
 use Rattle.expressions.proofs.expr.compile_args.Reads as compile-args
 use Rattle.expressions.proofs.expr.compile_args.Kinds as compile-args-kinds
-use Rattle.expressions.proofs.expr.+compile_args_compile_expr.Lts-compile_args as compile-args-lts
+use Rattle.expressions.proofs.expr.+expr_cycle.Lts-compile_args as compile-args-lts
 use Rattle.expressions.proofs.expr.compile_expr.Reads as compile-expr
 use Rattle.expressions.proofs.expr.compile_expr.Kinds as compile-expr-kinds
-use Rattle.expressions.proofs.expr.+compile_args_compile_expr.Lts-compile_expr as compile-expr-lts
+use Rattle.expressions.proofs.expr.+expr_cycle.Lts-compile_expr as compile-expr-lts
 use Rattle.expressions.proofs.expr.mantissa_at.Reads as mantissa-at-reads
 use Rattle.expressions.proofs.expr.node_range.Reads as node-range-reads
 use Rattle.expressions.proofs.expr.op_at.Reads as op-at-reads
@@ -40,8 +40,8 @@ use Rattle.recorder.proofs.codegen.emit_inkey.Reads as emit-inkey-reads
 use Rattle.recorder.proofs.word.behind.Reads as behind-reads
 use Rattle.recorder.proofs.word.payload_at.Reads as payload-at-reads
 use Rattle.rules.proofs.tables.want.Reads as want-reads
-use Rattle.expressions.proofs.expr.+compile_args_compile_expr.{statement}
-use Rattle.expressions.proofs.expr.+compile_args_compile_expr.Tie.{close}
+use Rattle.expressions.proofs.expr.+expr_cycle.{statement}
+use Rattle.expressions.proofs.expr.+expr_cycle.Tie.{close}
 
 abbrev μ-compile-args : Measures 8 compile-args-kinds.ps ℕ
 μ-compile-args κs a = 2 * a.1.1.1.1.1.1.1.1.1.1.0 + 1
