@@ -54,13 +54,13 @@ fn main() {
 }
 
 /// Links the proved compiler's static library if it is there: HOLLUPSA_LIB
-/// names its folder, else it is the repository's target/staticlib.
+/// names its folder, else it is the repository's crates/hollupsa/out.
 fn library(here: &Path) {
   println!("cargo:rerun-if-env-changed=HOLLUPSA_LIB");
   println!("cargo:rustc-check-cfg=cfg(library)");
   let given = env::var("HOLLUPSA_LIB").unwrap_or_default();
   let folder = if given.is_empty() {
-    here.join("../target/staticlib")
+    here.join("../crates/hollupsa/out")
   } else {
     here.join(given)
   };

@@ -1,4 +1,4 @@
-//! Links libhollupsa.a: HOLLUPSA_LIB names its folder, else it is the repository's target/staticlib.
+//! Links libhollupsa.a: HOLLUPSA_LIB names its folder, else it is the repository's crates/hollupsa/out.
 
 use std::env;
 use std::path::PathBuf;
@@ -8,11 +8,11 @@ fn main() {
   let here = PathBuf::from(env::var("CARGO_MANIFEST_DIR").unwrap());
   let folder = match env::var("HOLLUPSA_LIB") {
     Ok(given) if !given.is_empty() => PathBuf::from(given),
-    _ => here.join("../../target/staticlib"),
+    _ => here.join("../../crates/hollupsa/out"),
   };
   let library = folder.join("libhollupsa.a");
   if !library.exists() {
-    panic!("{} is missing: run `rt staticlib hollupsa`", library.display());
+    panic!("{} is missing: run `rt lib` in crates/hollupsa", library.display());
   }
   println!("cargo:rerun-if-changed={}", library.display());
   println!("cargo:rustc-link-search=native={}", folder.display());
