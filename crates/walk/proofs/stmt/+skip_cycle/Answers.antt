@@ -4,8 +4,13 @@ use Prim.Native.Nat.{◌-◌}
 use Rattle.recorder.specs.Word.{next}
 use Rattle.sheet.specs.Skip.{skip_item, skip_pair, skip_times, skip_field, skip_fields, skip_node}
 use Rattle.sheet.proofs.Walks.{told}
-use Rattle.walk.proofs.Skips.{pair_skips, field_skips, node_skips, source_none, source_range, source_file, element_expr, element_range, pair_of, fields_step, fields_end, repeat_step, repeat_end, choose_first, choose_second, node_none, node_end, node_skip}
+use Rattle.walk.proofs.Steps.{to_next}
+use Rattle.walk.proofs.Skips.{item_skips, pair_skips, field_skips, node_skips, source_none, source_range, source_file, element_expr, element_range, pair_of, fields_step, fields_end, repeat_step, repeat_end, choose_first, choose_second, node_none, node_end, node_skip}
+use Rattle.walk.proofs.Cycle.{next_inside}
 use Rattle.walk.proofs.stmt.+skip_cycle.Goals as goal
+
+pub skip_element-skip_node-requires : goal.skip_element-skip_node-requires
+skip_element-skip_node-requires t c = let h = to_next c.args.sheet.now c.args.at in omega (arith, c.decreases, c.behind-p.ensures, h.later)
 
 pub skip_element-returns-then-n-eq0 : goal.skip_element-returns-then-n-eq0
 unfolding skip_item
@@ -14,6 +19,21 @@ skip_element-returns-then-n-eq0 t c = element_expr c.args.sheet.now (skip_node c
 pub skip_element-returns : goal.skip_element-returns
 unfolding skip_item
 skip_element-returns t c = element_range c.args.sheet.now (skip_node c.args.sheet.now c.args.left) _ _ _ _ _ c.payload_at-n.ensures c.if-n-eq0.false c.behind-p.ensures c.behind.ensures
+
+pub skip_field-skip_pair-requires : goal.skip_field-skip_pair-requires
+skip_field-skip_pair-requires t c = omega (arith, c.decreases)
+
+pub skip_field-skip_pair-requires-else-is_absent : goal.skip_field-skip_pair-requires-else-is_absent
+skip_field-skip_pair-requires-else-is_absent t c = omega (arith, c.decreases)
+
+pub skip_field-skip_list-requires : goal.skip_field-skip_list-requires
+skip_field-skip_list-requires t c = omega (arith, c.decreases)
+
+pub skip_field-skip_list-requires-in-NonEmpty : goal.skip_field-skip_list-requires-in-NonEmpty
+skip_field-skip_list-requires-in-NonEmpty t c = omega (arith, c.decreases)
+
+pub skip_field-skip_list-requires-else-is_absent-2 : goal.skip_field-skip_list-requires-else-is_absent-2
+skip_field-skip_list-requires-else-is_absent-2 t c = omega (arith, c.decreases)
 
 pub skip_field-returns-in-Once : goal.skip_field-returns-in-Once
 unfolding skip_field skip_times
@@ -46,6 +66,9 @@ skip_field-returns-else-is_absent-2 t c = rw c.in-OptionalList.is (choose_second
 pub skip_fields-loop-j-init : goal.skip_fields-loop-j-init
 skip_fields-loop-j-init t c = (omega arith, refl)
 
+pub skip_fields-skip_field-p-requires : goal.skip_fields-skip_field-p-requires
+skip_fields-skip_field-p-requires t c = omega (arith, c.decreases, c.loop-j.invariant.0)
+
 pub skip_fields-loop-j-smaller : goal.skip_fields-loop-j-smaller
 skip_fields-loop-j-smaller t c = omega (arith, c.loop-j-test.true)
 
@@ -54,6 +77,15 @@ skip_fields-loop-j-preserved t c = (let h = field_skips c.args.sheet.now (skip_n
 
 pub skip_fields-returns : goal.skip_fields-returns
 skip_fields-returns t c = fields_end c.args.sheet.now (skip_node c.args.sheet.now c.args.left) _ _ _ _ c.loop-j-test.false c.loop-j.invariant.1
+
+pub skip_item-skip_node-requires : goal.skip_item-skip_node-requires
+skip_item-skip_node-requires t c = omega (arith, c.decreases)
+
+pub skip_item-skip_source-requires : goal.skip_item-skip_source-requires
+skip_item-skip_source-requires t c = omega (arith, c.decreases)
+
+pub skip_item-skip_element-requires : goal.skip_item-skip_element-requires
+skip_item-skip_element-requires t c = omega (arith, c.decreases)
 
 pub skip_item-returns-in-Nothing : goal.skip_item-returns-in-Nothing
 unfolding skip_item
@@ -106,6 +138,9 @@ skip_item-returns-in-Datum t c = rw c.in-Datum.is (c.behind-in-Datum.ensures ∙
 pub skip_list-loop-n-init : goal.skip_list-loop-n-init
 skip_list-loop-n-init t c = (omega arith, refl)
 
+pub skip_list-skip_pair-p-requires : goal.skip_list-skip_pair-p-requires
+skip_list-skip_pair-p-requires t c = let h = to_next c.args.sheet.now c.args.at in omega (arith, c.decreases, c.loop-n.invariant.0, c.behind-p.ensures, h.later)
+
 pub skip_list-loop-n-smaller : goal.skip_list-loop-n-smaller
 skip_list-loop-n-smaller t c = omega (arith, c.loop-n-test.true)
 
@@ -121,8 +156,17 @@ skip_node-returns-then-left-eq0 t c = node_none c.args.sheet.now _ _ _ c.if-left
 pub skip_node-returns-then-sheet-at : goal.skip_node-returns-then-sheet-at
 skip_node-returns-then-sheet-at t c = node_end c.args.sheet.now _ _ _ c.if-sheet-at.true
 
+pub skip_node-skip_fields-requires : goal.skip_node-skip_fields-requires
+skip_node-skip_fields-requires t c = let h = to_next c.args.sheet.now c.args.at in let k = to_next c.args.sheet.now c.behind-p.result in let i = next_inside c.args.sheet.now c.args.at c.if-sheet-at.false in omega (arith, c.decreases, c.if-sheet-at.false, c.behind-p.ensures, c.behind-q.ensures, i, k.later)
+
 pub skip_node-returns : goal.skip_node-returns
 skip_node-returns t c = node_skip c.args.sheet.now _ _ _ _ _ _ _ _ _ _ c.if-left-eq0.false c.payload_at.ensures c.case_of-m.ensures c.start_at-i.ensures c.start_after-e.ensures c.behind-p.ensures c.behind-q.ensures c.skip_fields.ensures
+
+pub skip_pair-skip_item-p-requires : goal.skip_pair-skip_item-p-requires
+skip_pair-skip_item-p-requires t c = omega (arith, c.decreases)
+
+pub skip_pair-skip_item-requires : goal.skip_pair-skip_item-requires
+skip_pair-skip_item-requires t c = let h = item_skips c.args.sheet.now (skip_node c.args.sheet.now c.args.left) (node_skips c.args.sheet.now c.args.left) c.args.a c.args.at in omega (arith, c.decreases, c.skip_item-p.ensures, h.later)
 
 pub skip_pair-returns : goal.skip_pair-returns
 skip_pair-returns t c = pair_of c.args.sheet.now (skip_node c.args.sheet.now c.args.left) _ _ _ _ _ c.skip_item-p.ensures c.skip_item.ensures
@@ -134,6 +178,9 @@ skip_source-returns-then-n-eq0 t c = source_none c.args.sheet.now (skip_node c.a
 pub skip_source-returns-then-n-eq1 : goal.skip_source-returns-then-n-eq1
 unfolding skip_item
 skip_source-returns-then-n-eq1 t c = source_range c.args.sheet.now (skip_node c.args.sheet.now c.args.left) _ _ _ _ _ c.payload_at-n.ensures c.if-n-eq1.true c.behind-p.ensures c.behind.ensures
+
+pub skip_source-skip_node-requires : goal.skip_source-skip_node-requires
+skip_source-skip_node-requires t c = let h = to_next c.args.sheet.now c.args.at in omega (arith, c.decreases, c.behind-p.ensures, h.later)
 
 pub skip_source-returns : goal.skip_source-returns
 unfolding skip_item
