@@ -171,7 +171,7 @@ module _ {S : Type 0} {R : Recorder S} {P : S → Type 0} (κ : Keeps R P) (t : 
   keep_set k r a b p = emitted refl (keep_typed String b (keep_place String a p))
 
   -- CIRCLE and its like
-  keep_surplus : {s : S} (n : ℕ) (es : Exprs) → P s → P (surplus_notes R t base n es s)
+  keep_surplus : (n : ℕ) (es : Exprs) {s : S} → P s → P (surplus_notes R t base n es s)
   unfolding surplus_notes
   keep_surplus n none p = p
   keep_surplus zero (more e es) p = keep_surplus zero es (noted p)
@@ -189,7 +189,7 @@ module _ {S : Type 0} {R : Recorder S} {P : S → Type 0} (κ : Keeps R P) (t : 
   unfolding datum_node
   keep_datum d p = pick_kept (ltb 255 (text_size (datum_length t base d))) (noted (κ.datum _ _ _ _ p)) (κ.datum _ _ _ _ p)
 
-  pub keep_data : {s : S} (ds : List Datum) → P s → P (compile_data R t base ds s)
+  pub keep_data : (ds : List Datum) {s : S} → P s → P (compile_data R t base ds s)
   unfolding compile_data
   keep_data [] p = p
   keep_data (d ∷ ds) p = keep_data ds (keep_datum d p)
@@ -222,13 +222,13 @@ module _ {S : Type 0} {R : Recorder S} {P : S → Type 0} (κ : Keeps R P) (t : 
   keep_dim_one (inkey r) p = p
   keep_dim_one (error r) p = p
 
-  pub keep_dim : {s : S} (es : Exprs) → P s → P (compile_dim R t base es s)
+  pub keep_dim : (es : Exprs) {s : S} → P s → P (compile_dim R t base es s)
   unfolding compile_dim
   keep_dim none p = p
   keep_dim (more e es) p = keep_dim es (keep_dim_one e p)
 
   -- FIELD
-  keep_fields : {s : S} (fs : List FieldSpec) → P s → P (compile_fields R t base fs s)
+  keep_fields : (fs : List FieldSpec) {s : S} → P s → P (compile_fields R t base fs s)
   unfolding compile_fields
   keep_fields [] p = p
   keep_fields (f ∷ fs) p = keep_fields fs (keep_place String f.var (keep_typed Real f.len p))
@@ -289,7 +289,7 @@ module _ {S : Type 0} {R : Recorder S} {P : S → Type 0} (κ : Keeps R P) (t : 
   keep_input_var b (inkey r) p = keep_lvalue (inkey r) p
   keep_input_var b (error r) p = keep_lvalue (error r) p
 
-  keep_input_vars : {s : S} (b : Bool) (es : Exprs) → P s → P (input_vars R t base b es s)
+  keep_input_vars : (b : Bool) (es : Exprs) {s : S} → P s → P (input_vars R t base b es s)
   unfolding input_vars
   keep_input_vars b none p = p
   keep_input_vars b (more e es) p = keep_input_vars b es (keep_input_var b e p)
@@ -323,7 +323,7 @@ module _ {S : Type 0} {R : Recorder S} {P : S → Type 0} (κ : Keeps R P) (t : 
   keep_bad_byte absent r p = noted p
   keep_bad_byte (given b) r p = p
 
-  keep_bad_bytes : {s : S} (es : Exprs) → P s → P (bad_bytes R t base es s)
+  keep_bad_bytes : (es : Exprs) {s : S} → P s → P (bad_bytes R t base es s)
   unfolding bad_bytes
   keep_bad_bytes none p = p
   keep_bad_bytes (more e es) p = keep_bad_bytes es (keep_bad_byte (byte_of t base e) (expr_range e) p)
@@ -332,7 +332,7 @@ module _ {S : Type 0} {R : Recorder S} {P : S → Type 0} (κ : Keeps R P) (t : 
   keep_load_byte absent r p = p
   keep_load_byte (given b) r p = κ.byte _ _ _ _ p
 
-  keep_load_bytes : {s : S} (es : Exprs) → P s → P (load_bytes R t base es s)
+  keep_load_bytes : (es : Exprs) {s : S} → P s → P (load_bytes R t base es s)
   unfolding load_bytes
   keep_load_bytes none p = p
   keep_load_bytes (more e es) p = keep_load_bytes es (keep_load_byte (byte_of t base e) (expr_range e) p)
@@ -363,7 +363,7 @@ module _ {S : Type 0} {R : Recorder S} {P : S → Type 0} (κ : Keeps R P) (t : 
   keep_next_one n r absent p = p
   keep_next_one {s} n r (given v) p = let q = keep_sym v p in emitted refl (pick_kept (matches_type (compile_sym R t base v s).ty Real) q (noted {k = 5} {r = v} {v = 1} q))
 
-  keep_next_each : {s : S} (n : ℕ) (r : Range) (vs : List (Opt Range)) → P s → P (next_each R t base n r vs s)
+  keep_next_each : (n : ℕ) (r : Range) (vs : List (Opt Range)) {s : S} → P s → P (next_each R t base n r vs s)
   unfolding next_each
   keep_next_each n r [] p = p
   keep_next_each n r (v ∷ vs) p = keep_next_each n r vs (keep_next_one n r v p)
@@ -374,7 +374,7 @@ module _ {S : Type 0} {R : Recorder S} {P : S → Type 0} (κ : Keeps R P) (t : 
   keep_next r (v ∷ vs) p = keep_next_each (length (v ∷ vs)) r (v ∷ vs) p
 
   -- ON
-  keep_on_jumps : {s : S} (sub : ℕ) (gs : List OnTarget) → P s → P (on_jumps R t base sub gs s)
+  keep_on_jumps : (sub : ℕ) (gs : List OnTarget) {s : S} → P s → P (on_jumps R t base sub gs s)
   unfolding on_jumps
   keep_on_jumps sub [] p = p
   keep_on_jumps sub (g ∷ gs) p = keep_on_jumps sub gs (keep_waiting sub _ _ _ p)
@@ -420,7 +420,7 @@ module _ {S : Type 0} {R : Recorder S} {P : S → Type 0} (κ : Keeps R P) (t : 
   keep_print_one r (comma er) xs p = emitted refl p
   keep_print_one r (semicolon er) xs p = p
 
-  keep_print_each : {s : S} (r : Range) (xs : List PrintElement) → P s → P (print_each R t base r xs s)
+  keep_print_each : (r : Range) (xs : List PrintElement) {s : S} → P s → P (print_each R t base r xs s)
   unfolding print_each
   keep_print_each r [] p = p
   keep_print_each r (x ∷ xs) p = keep_print_each r xs (keep_print_one r x xs p)
@@ -434,7 +434,7 @@ module _ {S : Type 0} {R : Recorder S} {P : S → Type 0} (κ : Keeps R P) (t : 
   keep_print r xs p = emitted refl (keep_empty_line r xs (keep_print_each r xs p))
 
   -- READ, SWAP, WHILE
-  pub keep_read : {s : S} (es : Exprs) → P s → P (compile_read R t base es s)
+  pub keep_read : (es : Exprs) {s : S} → P s → P (compile_read R t base es s)
   unfolding compile_read
   keep_read none p = p
   keep_read (more e es) p = keep_read es (emitted refl (keep_lvalue e p))

@@ -34,44 +34,44 @@ module _ {S T : Type 0} {R : Recorder S} {Q : Recorder T} (σ : Simulation R Q) 
     pub ty : a.ty ≡ b.ty
 
   pub begin : {s : S} {u : T} → σ.Sim s u → Goes u s u
-  begin m = record { sim = m; later = σ.Later-refl _ }
+  begin m = record { sim = m; later = σ.later_refl _ }
 
 -- one operation more
 module _ {S T : Type 0} {R : Recorder S} {Q : Recorder T} {σ : Simulation R Q} where
   -- a step from here on, and a step behind another
   pub start : {w u : T} {s : S} → Goes σ w s u → Goes σ u s u
-  start g = record { sim = g.sim; later = σ.Later-refl _ }
+  start g = record { sim = g.sim; later = σ.later_refl _ }
 
   pub over : {w u u' : T} {s s' : S} → Goes σ w s u → Goes σ u s' u' → Goes σ w s' u'
-  over g h = record { sim = h.sim; later = σ.Later-trans _ _ _ g.later h.later }
+  over g h = record { sim = h.sim; later = σ.later_trans _ _ _ g.later h.later }
 
   pub plain : {w u : T} {s : S} {k : ℕ} {r : Range} {a b c : ℕ} → fresh k b ≡ true → Goes σ w s u
       → Goes σ w (R.emit s k r a b c) (Q.emit u k r a b c)
-  plain f g = record { sim = σ.emit _ _ _ _ _ _ _ f g.sim; later = σ.Later-trans _ _ _ g.later (σ.emit_later _ _ _ _ _ _) }
+  plain f g = record { sim = σ.emit _ _ _ _ _ _ _ f g.sim; later = σ.later_trans _ _ _ g.later (σ.emit_later _ _ _ _ _ _) }
 
   pub numbering : {w u : T} {s : S} {k : ℕ} {r : Range} {a a' b c : ℕ} → fresh k b ≡ true → numbered k ≡ true → σ.Number u a a' → Goes σ w s u
       → Goes σ w (R.emit s k r a b c) (Q.emit u k r a' b c)
   numbering f n x g = record {
     sim = σ.emit_number _ _ _ _ _ _ _ _ f n g.sim x;
-    later = σ.Later-trans _ _ _ g.later (σ.emit_later _ _ _ _ _ _);
+    later = σ.later_trans _ _ _ g.later (σ.emit_later _ _ _ _ _ _);
   }
 
   pub numbering_both : {w u : T} {s : S} {k : ℕ} {r : Range} {a a' b b' c : ℕ} → fresh k b ≡ true → numbered k ≡ true → twice k ≡ true
       → σ.Number u a a' → σ.Number u b b' → Goes σ w s u → Goes σ w (R.emit s k r a b c) (Q.emit u k r a' b' c)
   numbering_both f n d x y g = record {
     sim = σ.emit_numbers _ _ _ _ _ _ _ _ _ f n d g.sim x y;
-    later = σ.Later-trans _ _ _ g.later (σ.emit_later _ _ _ _ _ _);
+    later = σ.later_trans _ _ _ g.later (σ.emit_later _ _ _ _ _ _);
   }
 
   pub placing : {w u : T} {s : S} {k : ℕ} {r : Range} {a a' b c : ℕ} → fresh k b ≡ true → σ.Place u a a' → Goes σ w s u
       → Goes σ w (R.emit s k r a b c) (Q.emit u k r a' b c)
   placing f p g = record {
     sim = σ.emit_place _ _ _ _ _ _ _ _ f g.sim p;
-    later = σ.Later-trans _ _ _ g.later (σ.emit_later _ _ _ _ _ _);
+    later = σ.later_trans _ _ _ g.later (σ.emit_later _ _ _ _ _ _);
   }
 
   pub noted : {w u : T} {s : S} {k : ℕ} {r : Range} {v : ℕ} → Goes σ w s u → Goes σ w (R.note s k r v) (Q.note u k r v)
-  noted g = record { sim = σ.note _ _ _ _ _ g.sim; later = σ.Later-trans _ _ _ g.later (σ.note_later_lem _ _ _ _) }
+  noted g = record { sim = σ.note _ _ _ _ _ g.sim; later = σ.later_trans _ _ _ g.later (σ.note_later_lem _ _ _ _) }
 
   -- the same branch on both sides
   pub pick_goes : {w u u' : T} {s s' : S} (b : Bool) → Goes σ w s u → Goes σ w s' u' → Goes σ w (pick b s s') (pick b u u')
@@ -109,7 +109,7 @@ module _ {S T : Type 0} {R : Recorder S} {Q : Recorder T} (σ : Simulation R Q) 
   sim_sym r g =
       let h = pick_goes (ltb 0 (read_name t base r).lost) (noted g) g in
       record {
-        goes = record { sim = σ.symbol _ _ _ _ _ (name_sigil t base r) h.sim; later = σ.Later-trans _ _ _ h.later (σ.symbol_later _ _ _ _) };
+        goes = record { sim = σ.symbol _ _ _ _ _ (name_sigil t base r) h.sim; later = σ.later_trans _ _ _ h.later (σ.symbol_later _ _ _ _) };
         number = σ.symbol_number_lem _ _ _ _ _ (name_sigil t base r) h.sim;
         ty = refl;
       }

@@ -164,7 +164,7 @@ module _ {S T : Type 0} {R : Recorder S} {Q : Recorder T} (σ : Simulation R Q) 
     unfolding compile_line
     sim_line l g = sim_done l g (stmts_at_lem l.stmts g.base (sim_begun l g))
 
-    pub sim_lines : {w : T} {c : Lines S} {d : Lines T} (ls : List ProgramLine) → GoesLines w c d → GoesLines w (compile_lines R t ls c) (compile_lines Q t ls d)
+    pub sim_lines : (ls : List ProgramLine) {w : T} {c : Lines S} {d : Lines T} → GoesLines w c d → GoesLines w (compile_lines R t ls c) (compile_lines Q t ls d)
     unfolding compile_lines
     sim_lines [] g = g
     sim_lines (l ∷ ls) g = sim_lines ls (sim_line l g)
@@ -183,7 +183,7 @@ module _ {S T : Type 0} {R : Recorder S} {Q : Recorder T} (σ : Simulation R Q) 
       → ((x y : ℕ) → P x y → σ.Sim (R.settle s k x) (Q.settle u k y)) → Alike P a b → Stays w s u
       → Stays w (settle_by R a class severity k (R.look s k) s) (settle_by Q b class severity k (Q.look u k) u)
   sim_settle_by class severity k c f (each p) g = record {
-    goes = record { sim = f _ _ p; later = σ.Later-trans _ _ _ g.goes.later (σ.settle_later _ _ _) };
+    goes = record { sim = f _ _ p; later = σ.later_trans _ _ _ g.goes.later (σ.settle_later _ _ _) };
     fits = σ.settle_fits _ _ _ g.fits;
     room = λ r. σ.settle_room _ _ _ (g.room r);
   }
@@ -192,7 +192,7 @@ module _ {S T : Type 0} {R : Recorder S} {Q : Recorder T} (σ : Simulation R Q) 
       rw l.c record {
         goes = record {
           sim = σ.note_at _ _ _ _ _ _ _ l.line (σ.drop_label _ _ _ c g.goes.sim);
-          later = σ.Later-trans _ _ _ g.goes.later (σ.Later-trans _ _ _ (σ.drop_label_later _ _) (σ.note_at_later _ _ _ _ _));
+          later = σ.later_trans _ _ _ g.goes.later (σ.later_trans _ _ _ (σ.drop_label_later _ _) (σ.note_at_later _ _ _ _ _));
         };
         fits = σ.note_at_fits _ _ _ _ _ (σ.drop_label_fits _ _ g.fits);
         room = λ r. σ.note_at_room _ _ _ _ _ (σ.drop_label_room _ _ (g.room r));
@@ -229,12 +229,12 @@ module _ {S T : Type 0} {R : Recorder S} {Q : Recorder T} (σ : Simulation R Q) 
           rw (restore_label _ _ l j) (sim_data_of ((Q.look u k).b - 1) (marks_later g.goes.later m)) in
           sim_settle_by 3 2 k c (λ x y p. σ.settle_number _ _ _ _ _ i g.goes.sim p) a g
 
-  pub sim_labels : {w u : T} {s : S} {ms ns : List Mark} (k n : ℕ) → MarksGo w ms ns → Stays w s u → Stays w (resolve_labels R ms k n s) (resolve_labels Q ns k n u)
+  pub sim_labels : (k n : ℕ) {w u : T} {s : S} {ms ns : List Mark} → MarksGo w ms ns → Stays w s u → Stays w (resolve_labels R ms k n s) (resolve_labels Q ns k n u)
   unfolding resolve_labels
   sim_labels k zero m g = g
   sim_labels k (suc n) m g = sim_labels (k + 1) n m (sim_settle_jump k m g)
 
-  pub sim_indices : {w u : T} {s : S} {ms ns : List Mark} (k n : ℕ) → MarksGo w ms ns → Stays w s u
+  pub sim_indices : (k n : ℕ) {w u : T} {s : S} {ms ns : List Mark} → MarksGo w ms ns → Stays w s u
       → Stays w (resolve_datum_indices R ms k n s) (resolve_datum_indices Q ns k n u)
   unfolding resolve_datum_indices
   sim_indices k zero m g = g

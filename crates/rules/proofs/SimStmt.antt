@@ -20,7 +20,7 @@ fresh_pick true k l n e f = e
 fresh_pick false k l n e f = f
 
 module _ {S T : Type 0} {R : Recorder S} {Q : Recorder T} (σ : Simulation R Q) (t : List ℕ) (base : ℕ) where
-  sim_surplus : {w u : T} {s : S} (n : ℕ) (es : Exprs) → Goes σ w s u → Goes σ w (surplus_notes R t base n es s) (surplus_notes Q t base n es u)
+  sim_surplus : (n : ℕ) (es : Exprs) {w u : T} {s : S} → Goes σ w s u → Goes σ w (surplus_notes R t base n es s) (surplus_notes Q t base n es u)
   unfolding surplus_notes
   sim_surplus n none g = g
   sim_surplus zero (more e es) g = sim_surplus zero es (noted g)
@@ -34,13 +34,13 @@ module _ {S T : Type 0} {R : Recorder S} {Q : Recorder T} (σ : Simulation R Q) 
 
   -- DATA
   datum_goes : {w u : T} {s : S} {x n q : ℕ} → Goes σ w s u → Goes σ w (R.datum s x n q) (Q.datum u x n q)
-  datum_goes g = record { sim = σ.datum _ _ _ _ _ g.sim; later = σ.Later-trans _ _ _ g.later (σ.datum_later _ _ _ _) }
+  datum_goes g = record { sim = σ.datum _ _ _ _ _ g.sim; later = σ.later_trans _ _ _ g.later (σ.datum_later _ _ _ _) }
 
   sim_datum : {w u : T} {s : S} (d : Datum) → Goes σ w s u → Goes σ w (datum_node R t base d s) (datum_node Q t base d u)
   unfolding datum_node
   sim_datum d g = pick_goes (ltb 255 (text_size (datum_length t base d))) (noted (datum_goes g)) (datum_goes g)
 
-  sim_data : {w u : T} {s : S} (ds : List Datum) → Goes σ w s u → Goes σ w (compile_data R t base ds s) (compile_data Q t base ds u)
+  sim_data : (ds : List Datum) {w u : T} {s : S} → Goes σ w s u → Goes σ w (compile_data R t base ds s) (compile_data Q t base ds u)
   unfolding compile_data
   sim_data [] g = g
   sim_data (d ∷ ds) g = sim_data ds (sim_datum d g)
@@ -51,7 +51,7 @@ module _ {S T : Type 0} {R : Recorder S} {Q : Recorder T} (σ : Simulation R Q) 
       let h = plain {k = 27} {r = r} {a = 0} {b = 0} {c = 0} refl (start g) in
       over g record {
         sim = σ.patch_end _ _ _ _ _ _ h.sim (place_then p h) (σ.count _ _ h.sim);
-        later = σ.Later-trans _ _ _ h.later (σ.patch_end_later _ _ _);
+        later = σ.later_trans _ _ _ h.later (σ.patch_end_later _ _ _);
       }
 
   sim_def_node : {w u : T} {s : S} {n n' a a' : ℕ} (x p : Opt Range) (r : Range) (e : Expr) → σ.Number u n n' → σ.Number u a a' → Goes σ w s u
@@ -87,7 +87,7 @@ module _ {S T : Type 0} {R : Recorder S} {Q : Recorder T} (σ : Simulation R Q) 
   sim_dim_one (inkey r) g = g
   sim_dim_one (error r) g = g
 
-  sim_dim : {w u : T} {s : S} (es : Exprs) → Goes σ w s u → Goes σ w (compile_dim R t base es s) (compile_dim Q t base es u)
+  sim_dim : (es : Exprs) {w u : T} {s : S} → Goes σ w s u → Goes σ w (compile_dim R t base es s) (compile_dim Q t base es u)
   unfolding compile_dim
   sim_dim none g = g
   sim_dim (more e es) g = sim_dim es (sim_dim_one e g)
@@ -96,7 +96,7 @@ module _ {S T : Type 0} {R : Recorder S} {Q : Recorder T} (σ : Simulation R Q) 
   sim_place want e g = let x = sim_lvalue σ t base e g in sim_check σ t base want (expr_range e) x.ty x.goes
 
   -- FIELD
-  sim_fields : {w u : T} {s : S} (fs : List FieldSpec) → Goes σ w s u → Goes σ w (compile_fields R t base fs s) (compile_fields Q t base fs u)
+  sim_fields : (fs : List FieldSpec) {w u : T} {s : S} → Goes σ w s u → Goes σ w (compile_fields R t base fs s) (compile_fields Q t base fs u)
   unfolding compile_fields
   sim_fields [] g = g
   sim_fields (f ∷ fs) g = sim_fields fs (sim_place String f.var (sim_typed σ t base Real f.len g))
@@ -169,7 +169,7 @@ module _ {S T : Type 0} {R : Recorder S} {Q : Recorder T} (σ : Simulation R Q) 
   sim_input_var b (inkey r) g = (sim_lvalue σ t base (inkey r) g).goes
   sim_input_var b (error r) g = (sim_lvalue σ t base (error r) g).goes
 
-  sim_input_vars : {w u : T} {s : S} (b : Bool) (es : Exprs) → Goes σ w s u → Goes σ w (input_vars R t base b es s) (input_vars Q t base b es u)
+  sim_input_vars : (b : Bool) (es : Exprs) {w u : T} {s : S} → Goes σ w s u → Goes σ w (input_vars R t base b es s) (input_vars Q t base b es u)
   unfolding input_vars
   sim_input_vars b none g = g
   sim_input_vars b (more e es) g = sim_input_vars b es (sim_input_var b e g)
@@ -208,7 +208,7 @@ module _ {S T : Type 0} {R : Recorder S} {Q : Recorder T} (σ : Simulation R Q) 
   sim_bad_byte absent r g = noted g
   sim_bad_byte (given b) r g = g
 
-  sim_bad_bytes : {w u : T} {s : S} (es : Exprs) → Goes σ w s u → Goes σ w (bad_bytes R t base es s) (bad_bytes Q t base es u)
+  sim_bad_bytes : (es : Exprs) {w u : T} {s : S} → Goes σ w s u → Goes σ w (bad_bytes R t base es s) (bad_bytes Q t base es u)
   unfolding bad_bytes
   sim_bad_bytes none g = g
   sim_bad_bytes (more e es) g = sim_bad_bytes es (sim_bad_byte (byte_of t base e) (expr_range e) g)
@@ -220,9 +220,9 @@ module _ {S T : Type 0} {R : Recorder S} {Q : Recorder T} (σ : Simulation R Q) 
 
   sim_load_byte : {w u : T} {s : S} (o : Opt ℕ) (r : Range) → Goes σ w s u → Goes σ w (load_byte R t base o r s) (load_byte Q t base o r u)
   sim_load_byte absent r g = g
-  sim_load_byte (given b) r g = record { sim = σ.byte _ _ _ _ _ g.sim; later = σ.Later-trans _ _ _ g.later (σ.byte_later _ _ _ _) }
+  sim_load_byte (given b) r g = record { sim = σ.byte _ _ _ _ _ g.sim; later = σ.later_trans _ _ _ g.later (σ.byte_later _ _ _ _) }
 
-  sim_load_bytes : {w u : T} {s : S} (es : Exprs) → Goes σ w s u → Goes σ w (load_bytes R t base es s) (load_bytes Q t base es u)
+  sim_load_bytes : (es : Exprs) {w u : T} {s : S} → Goes σ w s u → Goes σ w (load_bytes R t base es s) (load_bytes Q t base es u)
   unfolding load_bytes
   sim_load_bytes none g = g
   sim_load_bytes (more e es) g = sim_load_bytes es (sim_load_byte (byte_of t base e) (expr_range e) g)
@@ -264,7 +264,7 @@ module _ {S T : Type 0} {R : Recorder S} {Q : Recorder T} (σ : Simulation R Q) 
   sim_next_one n r absent g = g
   sim_next_one n r (given v) g = sim_next_by (next_range n r v) v (sim_sym σ t base v g)
 
-  sim_next_each : {w u : T} {s : S} (n : ℕ) (r : Range) (vs : List (Opt Range)) → Goes σ w s u → Goes σ w (next_each R t base n r vs s) (next_each Q t base n r vs u)
+  sim_next_each : (n : ℕ) (r : Range) (vs : List (Opt Range)) {w u : T} {s : S} → Goes σ w s u → Goes σ w (next_each R t base n r vs s) (next_each Q t base n r vs u)
   unfolding next_each
   sim_next_each n r [] g = g
   sim_next_each n r (v ∷ vs) g = sim_next_each n r vs (sim_next_one n r v g)
@@ -275,7 +275,7 @@ module _ {S T : Type 0} {R : Recorder S} {Q : Recorder T} (σ : Simulation R Q) 
   sim_next r (v ∷ vs) g = sim_next_each (length (v ∷ vs)) r (v ∷ vs) g
 
   -- ON
-  sim_on_jumps : {w u : T} {s : S} (sub : ℕ) (gs : List OnTarget) → Goes σ w s u → Goes σ w (on_jumps R t base sub gs s) (on_jumps Q t base sub gs u)
+  sim_on_jumps : (sub : ℕ) (gs : List OnTarget) {w u : T} {s : S} → Goes σ w s u → Goes σ w (on_jumps R t base sub gs s) (on_jumps Q t base sub gs u)
   unfolding on_jumps
   sim_on_jumps sub [] g = g
   sim_on_jumps sub (x ∷ xs) g = sim_on_jumps sub xs (sim_waiting sub x.range (label_or0 x.label) x.range g)
@@ -329,7 +329,7 @@ module _ {S T : Type 0} {R : Recorder S} {Q : Recorder T} (σ : Simulation R Q) 
   sim_print_one r (comma er) xs g = plain refl g
   sim_print_one r (semicolon er) xs g = g
 
-  sim_print_each : {w u : T} {s : S} (r : Range) (xs : List PrintElement) → Goes σ w s u → Goes σ w (print_each R t base r xs s) (print_each Q t base r xs u)
+  sim_print_each : (r : Range) (xs : List PrintElement) {w u : T} {s : S} → Goes σ w s u → Goes σ w (print_each R t base r xs s) (print_each Q t base r xs u)
   unfolding print_each
   sim_print_each r [] g = g
   sim_print_each r (x ∷ xs) g = sim_print_each r xs (sim_print_one r x xs g)
@@ -343,7 +343,7 @@ module _ {S T : Type 0} {R : Recorder S} {Q : Recorder T} (σ : Simulation R Q) 
   sim_print r xs g = plain refl (sim_empty_line r xs (sim_print_each r xs g))
 
   -- READ, SWAP, WHILE
-  sim_read : {w u : T} {s : S} (es : Exprs) → Goes σ w s u → Goes σ w (compile_read R t base es s) (compile_read Q t base es u)
+  sim_read : (es : Exprs) {w u : T} {s : S} → Goes σ w s u → Goes σ w (compile_read R t base es s) (compile_read Q t base es u)
   unfolding compile_read
   sim_read none g = g
   sim_read (more e es) g = sim_read es (plain refl (sim_lvalue σ t base e g).goes)
@@ -371,7 +371,7 @@ module _ {S T : Type 0} {R : Recorder S} {Q : Recorder T} (σ : Simulation R Q) 
       (pick_goes (either b (eqb d.comma 1)) (plain (fresh_pick (matches_type y Real) 44 45 (flag_of b) refl refl) g)
       (plain (fresh_pick (matches_type y Real) 46 47 0 refl refl) (noted g)))
 
-  sim_write_each : {w u : T} {s : S} (k : ℕ) (ds : List WriteElement) → Goes σ w s u → Goes σ w (write_each R t base k ds s) (write_each Q t base k ds u)
+  sim_write_each : (k : ℕ) (ds : List WriteElement) {w u : T} {s : S} → Goes σ w s u → Goes σ w (write_each R t base k ds s) (write_each Q t base k ds u)
   unfolding write_each
   sim_write_each k [] g = g
   sim_write_each k (d ∷ ds) g = let x = sim_expr σ t base d.datum g in sim_write_each k ds (sim_write_value k d (is_last ds) x.ty x.goes)
@@ -385,7 +385,7 @@ module _ {S T : Type 0} {R : Recorder S} {Q : Recorder T} (σ : Simulation R Q) 
   sim_end_here : {w u : T} {s : S} {k k' : ℕ} → σ.Place u k k' → Goes σ w s u → Goes σ w (end_here R t base k s) (end_here Q t base k' u)
   sim_end_here p g = record {
     sim = σ.patch _ _ _ _ _ _ g.sim p (σ.count _ _ g.sim);
-    later = σ.Later-trans _ _ _ g.later (σ.patch_later _ _ _);
+    later = σ.later_trans _ _ _ g.later (σ.patch_later _ _ _);
   }
 
   mutual

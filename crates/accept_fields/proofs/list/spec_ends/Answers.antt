@@ -1,0 +1,11 @@
+use Rattle.sheet.specs.Form.{pair_form, item_form}
+use Rattle.accept_exprs.proofs.Reaches.{reach_stop, reach_then}
+use Rattle.accept_fields.proofs.list.spec_ends.Goals as goal
+
+pub returns-then-p-eq0 : goal.returns-then-p-eq0
+unfolding pair_form item_form
+returns-then-p-eq0 c = reach_stop _ _ _ _ c.expr_ends-p.ensures c.if-p-eq0.true
+
+pub returns : goal.returns
+unfolding pair_form item_form
+returns c = reach_then _ _ _ _ _ c.expr_ends-p.ensures c.if-p-eq0.false c.place_ends.ensures
