@@ -2,31 +2,30 @@
 use mathlib.Core.Path.{◌≡◌, refl, sym, ap, ◌∙◌}
 use mathlib.Core.Bool.{Bool, true, false}
 use mathlib.Core.List.{List, [], ◌∷◌}
-use Prim.Native.Nat.{ℕ, zero, suc, ◌+◌, ◌-◌, ◌≤◌, ◌<◌}
+use Prim.Native.Nat.{ℕ, zero, suc, ◌-◌, ◌<◌}
 use native.Mathlib.Omega.{arith}
 use borrow.Author.Tests.{eqb-true, lt-ltb}
 use lib.Dec.{ltb, eqb}
-use Rattle.recorder.specs.Word.{pick, choose, both, either, kind_at, payload_at, next}
+use Rattle.recorder.specs.Word.{pick, both, either, kind_at, payload_at, next}
 use Rattle.sheet.specs.declared.form.Item.{Item}
 use Rattle.sheet.specs.declared.form.Item.TheVariants.{Nothing, Word, Node, Range as range}
 use Rattle.sheet.specs.declared.form.Sort.{Sort}
 use Rattle.sheet.specs.declared.form.Sort.TheVariants.{Expr, Place, InputPlace, Stmt}
 use Rattle.sheet.specs.declared.form.Times.TheVariants.{NonEmpty}
-use Rattle.sheet.specs.declared.form.Shape.{Shape}
 use Rattle.sheet.specs.declared.form.Field.{Field}
 use Rattle.sheet.specs.declared.form.Offence.TheVariants.{BadWord, TooDeep}
 use Rattle.sheet.specs.declared.form.Walk.{Walk}
 use Rattle.sheet.specs.declared.form.Walk.TheVariants.{Behind, Stops}
 use Rattle.sheet.specs.declared.form.Line.{Line}
-use Rattle.sheet.specs.Table.{one, expr_fields, stmt_fields, shape_fields, own_range, fields_of, node_kind, may_stand, is_fseek}
+use Rattle.sheet.specs.Table.{one, expr_fields, stmt_fields, shape_fields, own_range, node_kind, may_stand, is_fseek}
 use Rattle.sheet.specs.Tree.{shape_of}
-use Rattle.sheet.specs.Form.{then, is_absent, take_word, count_form, non_empty_form, head_form, range_form, item_form, pair_form, repeat_form, list_form, times_form, field_form, fields_form, body_form, node_form}
+use Rattle.sheet.specs.Form.{then, take_word, count_form, non_empty_form, head_form, range_form, item_form, pair_form, repeat_form, list_form, times_form, field_form, fields_form, body_form, node_form}
 use Rattle.sheet.proofs.Walks.{told}
 use Rattle.sheet.proofs.Rows.{NoneBelow, none_below}
 use Rattle.sheet.proofs.Shapes.{fields_rule}
 use Rattle.walk.specs.Shapes.{shape_by}
 use Rattle.walk.proofs.Lines.{then_behind, then_same, then_first, alone}
-use Rattle.accept_exprs.specs.Reach.{Stopped, Reaches}
+use Rattle.accept_exprs.specs.Reach.{Reaches}
 use Rattle.accept_exprs.proofs.Reaches.{none, reach_end, reach_same, reach_stop, reach_again, reach_then, head_stops, reach_node, own_stops, reach_body}
 
 then_then : (w : Walk) (f g : ℕ → Walk) → then (then w f) g ≡ then w (λ p. then (f p) g)

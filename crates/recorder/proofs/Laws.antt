@@ -18,7 +18,7 @@ use Rattle.recorder.specs.Word.{pick, both, kind, payload_at, word_of, range_wor
 use Rattle.recorder.specs.Name.{upper, same_units, same_name}
 use Rattle.recorder.specs.Ideal.{first_of}
 use Rattle.recorder.specs.Layout.{most_records}
-use Rattle.recorder.specs.Mem.{put_list, put_rec, put_st, four, more, low, known, sigil_code, with_link, tag_of, name_tag, is_name_entry, tagged_at, named_at, lookup, hash_step, hash_of, child_of, descent_from, descent_to, entry_of, may_link, linked_at, linked, root_of, new_list, new_st, symbol_number, symbol_list, symbol_st, entry_list, entry_st, note_list, note_st, part, at_rec, on_rec, records_in, notes_in, entries_in, names_in, root_in, line_in, as_word}
+use Rattle.recorder.specs.Mem.{put_list, put_rec, put_st, four, more, low, known, sigil_code, with_link, tag_of, name_tag, is_name_entry, tagged_at, named_at, lookup, hash_step, hash_of, child_of, descent_from, descent_to, entry_of, may_link, linked_at, linked, root_of, new_list, new_st, symbol_number, symbol_list, symbol_st, entry_list, entry_st, note_list, note_st, part, at_rec, on_rec, records_in, notes_in, entries_in, names_in, root_in, line_in}
 use Rattle.recorder.proofs.Bools.{both_false}
 
 -- the units' loop: one turn, a difference, the end

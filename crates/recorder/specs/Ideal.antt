@@ -1,5 +1,5 @@
 -- The rules' recorder: records, notes and book entries in lists that grow.
-use Rattle.std.specs.Prelude.{List, [], ◌∷◌, ◌++◌, Bool, false, ℕ, zero, suc, ◌+◌, ◌%◌, eqb, length, get_or}
+use Rattle.std.specs.Prelude.{List, [], ◌∷◌, ◌++◌, Bool, false, ℕ, zero, suc, ◌%◌, eqb, length, get_or}
 use Rattle.recorder.specs.declared.word.Range.{Range}
 use Rattle.recorder.specs.Word.{pick}
 use Rattle.recorder.specs.Name.{same_name}

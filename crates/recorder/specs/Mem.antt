@@ -1,6 +1,6 @@
 -- The memory that is compiled into: three lists of words of fixed lengths, and the numbers of the state.
 -- A put that does not fit changes no word and sets its buffer's flag, which stays.
-use Rattle.std.specs.Prelude.{List, ◌++◌, Bool, true, false, ℕ, zero, suc, ◌+◌, ◌*◌, ◌-◌, ◌/◌, ◌%◌, ◌^◌, min, ltb, eqb, length, get_or, set, take, drop, replicate}
+use Rattle.std.specs.Prelude.{List, ◌++◌, Bool, false, ℕ, zero, suc, ◌+◌, ◌*◌, ◌-◌, ◌/◌, ◌%◌, ◌^◌, min, ltb, eqb, length, get_or, set, take, drop, replicate}
 use Rattle.recorder.specs.declared.word.Range.{Range}
 use Rattle.recorder.specs.declared.codegen.Descent.{Descent}
 use Rattle.recorder.specs.Word.{pick, both, kind, kind_at, payload_at, range_at, word_of, range_word, next}

@@ -8,7 +8,6 @@ use Rattle.simulation.proofs.Clean.{delay_length}
 use Rattle.sheet.specs.Tree.{absent, given}
 use Rattle.rules.specs.Tables.{operand}
 use Rattle.rules.specs.Piles.{Kind, num, txt, plc, Pile, kind_of, symbol_type, operands, wants_of, taken, step}
-use Rattle.rules.specs.Demand.{targets}
 use Rattle.rules.proofs.BoolLaws.{no_one, either_of}
 use Rattle.rules.proofs.PileLaws.{pile_in, is_jump_call, Jumps, Ahead}
 use Rattle.rules.proofs.Blocks.{Empty, Body}

@@ -1,5 +1,5 @@
 -- The book's names: each has a number of its own, by which its type is found again.
-use Rattle.std.proofs.Common.{◌≡◌, ℕ, suc, ◌+◌, ◌%◌, ◌≤◌, Bool, true, false, eqb, List, [], ◌∷◌, ◌++◌, length, refl, ap, arith, eq-eqb, ne_eqb, eqb-true}
+use Rattle.std.proofs.Common.{◌≡◌, ℕ, suc, ◌+◌, ◌%◌, ◌≤◌, Bool, true, false, eqb, List, [], ◌∷◌, ◌++◌, refl, ap, arith, eq-eqb, ne_eqb, eqb-true}
 use Rattle.recorder.specs.Word.{pick, both}
 use Rattle.recorder.specs.Name.{same_units, same_name}
 use Rattle.recorder.specs.Ideal.{Entry, name_kind, how_many, found, find_name}

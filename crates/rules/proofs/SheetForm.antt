@@ -19,11 +19,11 @@ use Rattle.sheet.specs.Table.{one, optional, list, non_empty, non_empty₂, opti
 use Rattle.sheet.specs.Form
 use Rattle.sheet.specs.Check.{checked}
 use Rattle.sheet.specs.Skip.{skip_item, skip_pair, skip_list, skip_times, skip_field, skip_node, skip_source, skip_element}
-use Rattle.sheet.specs.Tree.{Expr, FieldSpec, WriteElement, Stmt, if_then, if_else, then, shape_table, shape_of, exprs_at, items_at, expr_list_at, expr_node, expr_at, stmts_at, element_of, if_at, stmt_node, stmt_at, line_at, behind_label, behind_line, line_stmts, program_at}
+use Rattle.sheet.specs.Tree.{Expr, FieldSpec, WriteElement, Stmt, if_then, if_else, shape_table, shape_of, exprs_at, items_at, expr_list_at, expr_node, expr_at, stmts_at, element_of, if_at, stmt_node, stmt_at, line_at, behind_label, behind_line, line_stmts, program_at}
 use Rattle.sheet.proofs.Walks.{pick_behind}
 use Rattle.sheet.proofs.Shapes.{fields_rule}
 use Rattle.walk.proofs.Lines.{then_first}
-use Rattle.walk.proofs.Within.{Walked, walked}
+use Rattle.walk.proofs.Within.{walked}
 use Rattle.walk.proofs.Accepted.{Lands, lands_choose, lands_then, word_lands, range_lands, item_lands, list_lands, field_lands, node_lands, accepted}
 use Rattle.rules.specs.declared.types.«Type».TheVariants.{String, Real}
 use Rattle.rules.specs.Missing.{All}

@@ -1,5 +1,5 @@
 -- Compiling a program, over any recorder: compile_prog, resolve_labels and resolve_datum_indices of compiler.rs.
-use Rattle.std.specs.Prelude.{ℕ, zero, suc, ◌+◌, ◌-◌, Bool, List, [], ◌∷◌, ◌++◌, length, ◌==◌, nat_lt}
+use Rattle.std.specs.Prelude.{ℕ, zero, suc, ◌+◌, ◌-◌, Bool, List, [], ◌∷◌, ◌++◌, ◌==◌, nat_lt}
 use Rattle.recorder.specs.Word.{pick, both, either}
 use Rattle.recorder.specs.Recorder.{Recorder, Look, unpack}
 use Rattle.recorder.specs.Ideal.{Search, missing, found}

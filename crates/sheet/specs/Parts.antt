@@ -1,5 +1,5 @@
 -- The tables that the code walks: each field a number, one case's fields behind another's, and where each case's begin.
-use Rattle.std.specs.Prelude.{List, [], ◌∷◌, ℕ, zero, suc, ◌+◌, ◌-◌, ◌/◌, ◌%◌, ltb, eqb, get_or}
+use Rattle.std.specs.Prelude.{List, [], ◌∷◌, ℕ, zero, suc, ◌+◌, ◌/◌, ◌%◌, ltb, eqb, get_or}
 use Rattle.recorder.specs.Word.{pick}
 use Rattle.sheet.specs.declared.form.Item.{Item}
 use Rattle.sheet.specs.declared.form.Item.TheVariants.{Nothing, Range as range, Name as name, OptionalName as optionalName, Text as text, Number as number, OptionalLabel as optionalLabel, Source as source, Element as element, Datum as datum}

@@ -11,7 +11,7 @@ use borrow.Author.Tests.{lt-ltb, le-ltb, ltb-true, eq-eqb, ne_eqb}
 use native.Mathlib.Decide.{dec_lt, ℕ_discrete}
 use native.Mathlib.Numerals.{add-one}
 use native.Mathlib.Omega.{arith}
-use Rattle.recorder.specs.Word.{pick, both, kind, kind_at, payload_at, word_of}
+use Rattle.recorder.specs.Word.{pick, both, kind_at, payload_at, word_of}
 use Rattle.recorder.specs.Name.{same_name}
 use Rattle.recorder.specs.Ideal.{Entry, entry, Search, missing, found, is_named, find_name}
 use Rattle.recorder.specs.Layout.{entry_words, words_of, fill}

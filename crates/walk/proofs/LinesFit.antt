@@ -23,7 +23,7 @@ use Rattle.walk.proofs.Steps.{Ends, repeat_ends, node_ends}
 use Rattle.sheet.proofs.Walks.{pick_behind}
 use Rattle.walk.proofs.Cycle.{kind_inside, next_inside}
 use Rattle.walk.proofs.Lines.{then_first}
-use Rattle.walk.proofs.Within.{Walked, walked, sheet_within}
+use Rattle.walk.proofs.Within.{walked, sheet_within}
 
 -- a walk that comes to its end has read at least n words
 pub record Reads (n p : ℕ) (w : Walk) : Type 0 where

@@ -1,6 +1,5 @@
 use native.Mathlib.Omega.{arith}
 use mathlib.Core.Path.{refl}
-use Prim.Native.Nat.{◌-◌}
 use Rattle.walk.proofs.Lines.{units_step, units_end}
 use Rattle.acceptance.proofs.has_surrogate.Goals as goal
 

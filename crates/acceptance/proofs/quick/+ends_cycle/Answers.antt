@@ -1,6 +1,5 @@
 use native.Mathlib.Omega.{arith}
 use mathlib.Core.Path.{refl}
-use Prim.Native.Nat.{◌-◌}
 use Rattle.sheet.specs.declared.form.Sort.TheVariants.{Expr, Stmt}
 use Rattle.sheet.specs.declared.form.Item.TheVariants.{Nothing}
 use Rattle.sheet.specs.Table.{stmt}

@@ -1,7 +1,5 @@
 use Rattle.closing.proofs.ClosingLaws.{end_other, end_number}
 use Rattle.recorder.specs.Mem.{rec_of}
-use mathlib.Core.Bool.{not}
-use mathlib.Core.Path.{ap}
 use Rattle.closing.proofs.closing.is_end.Goals as goal
 
 pub returns-then-call-ne3 : goal.returns-then-call-ne3

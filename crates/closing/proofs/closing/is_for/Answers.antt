@@ -1,6 +1,4 @@
 use borrow.Author.Tests.{eq-eqb, ne_eqb}
-use mathlib.Core.Bool.{not}
-use mathlib.Core.Path.{ap}
 use Rattle.closing.proofs.closing.is_for.Goals as goal
 
 pub returns-then-call_of-ne23 : goal.returns-then-call_of-ne23

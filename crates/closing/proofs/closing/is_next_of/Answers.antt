@@ -1,8 +1,6 @@
 use borrow.Author.Tests.{ne_eqb}
 use Rattle.closing.proofs.ClosingLaws.{next_any, next_same}
 use Rattle.recorder.specs.Mem.{rec_of}
-use mathlib.Core.Bool.{not}
-use mathlib.Core.Path.{ap}
 use Rattle.closing.proofs.closing.is_next_of.Goals as goal
 
 pub returns-then-call_of-ne24 : goal.returns-then-call_of-ne24

@@ -1,8 +1,6 @@
 use Rattle.closing.proofs.ClosingLaws.{one_yes}
 use Rattle.recorder.specs.Mem.{rec_of}
 use borrow.Author.Tests.{eq-eqb, ne_eqb}
-use mathlib.Core.Bool.{not}
-use mathlib.Core.Path.{ap}
 use Rattle.closing.proofs.closing.is_one.Goals as goal
 
 pub returns-then-call_of-ne3 : goal.returns-then-call_of-ne3

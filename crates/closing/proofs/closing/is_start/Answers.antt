@@ -1,6 +1,4 @@
 use Rattle.closing.proofs.ClosingLaws.{either_yes, either_no}
-use mathlib.Core.Bool.{not}
-use mathlib.Core.Path.{ap}
 use Rattle.closing.proofs.closing.is_start.Goals as goal
 
 pub returns-then-is_zero : goal.returns-then-is_zero

@@ -1,6 +1,4 @@
 use Rattle.closing.proofs.OnePass.{loop-delay, loop-while, loop-other}
-use mathlib.Core.Bool.{not}
-use mathlib.Core.Path.{ap}
 use Rattle.closing.proofs.closing.loop_step.Goals as goal
 
 pub returns-in-3 : goal.returns-in-3

@@ -1,6 +1,4 @@
 use Rattle.recorder.specs.Mem.{stepped_delayed_at}
-use mathlib.Core.Bool.{not}
-use mathlib.Core.Path.{ap}
 use Rattle.closing.proofs.closing.make_stepped_delay.Goals as goal
 
 pub returns : goal.returns

@@ -1,6 +1,4 @@
 use mathlib.Core.Path.{refl}
-use mathlib.Core.Bool.{not}
-use mathlib.Core.Path.{ap}
 use Rattle.closing.proofs.closing.open_note.Goals as goal
 
 pub returns : goal.returns

@@ -1,8 +1,6 @@
 use native.Mathlib.Omega.{arith}
 use mathlib.Core.Path.{refl, ◌∙◌}
 use Rattle.closing.proofs.ClosingLaws.{open_step_lem, open_stop, open_end}
-use mathlib.Core.Bool.{not}
-use mathlib.Core.Path.{ap}
 use Rattle.closing.proofs.closing.open_whiles.Goals as goal
 
 pub loop-left-init : goal.loop-left-init

@@ -1,7 +1,5 @@
 use native.Mathlib.Omega.{arith}
 use Rattle.closing.proofs.ClosingLaws.{up_bound, round_low, round_whole, round_same, round_next}
-use mathlib.Core.Bool.{not}
-use mathlib.Core.Path.{ap}
 use Rattle.closing.proofs.closing.round_up.Goals as goal
 
 pub returns-then-e-lt129 : goal.returns-then-e-lt129

@@ -1,7 +1,5 @@
 use Rattle.closing.proofs.ClosingLaws.{at_back, at_beyond}
 use Rattle.recorder.specs.Mem.{set_b}
-use mathlib.Core.Bool.{not}
-use mathlib.Core.Path.{ap}
 use Rattle.closing.proofs.closing.set_b_at.Goals as goal
 
 pub returns-then-i-list : goal.returns-then-i-list

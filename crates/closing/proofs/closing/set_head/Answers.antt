@@ -1,7 +1,5 @@
 use lib.Seq.{set_out}
 use mathlib.Core.Path.{sym}
-use mathlib.Core.Bool.{not}
-use mathlib.Core.Path.{ap}
 use Rattle.closing.proofs.closing.set_head.Goals as goal
 
 pub returns-then-part-gt0 : goal.returns-then-part-gt0

@@ -1,6 +1,4 @@
 use borrow.Author.Tests.{eq-eqb, ne_eqb}
-use mathlib.Core.Bool.{not}
-use mathlib.Core.Path.{ap}
 use Rattle.closing.proofs.closing.sigil_of.Goals as goal
 
 pub returns-then-c-eq1 : goal.returns-then-c-eq1

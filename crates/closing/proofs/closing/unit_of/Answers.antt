@@ -1,8 +1,5 @@
 use native.Mathlib.Omega.{arith}
-use Prim.Native.Nat.{◌-◌}
 use Rattle.closing.proofs.ClosingLaws.{unit_start, unit_step, unit_fits, unit_end, unit_low, unit_high}
-use mathlib.Core.Bool.{not}
-use mathlib.Core.Path.{ap}
 use Rattle.closing.proofs.closing.unit_of.Goals as goal
 
 pub returns-then-e-lt129 : goal.returns-then-e-lt129

@@ -1,8 +1,6 @@
 use native.Mathlib.Omega.{arith}
 use lib.ListN.{length-set}
 use Rattle.closing.proofs.ClosingLaws.{unlink_name, unlink_other, unlink_none}
-use mathlib.Core.Bool.{not}
-use mathlib.Core.Path.{ap}
 use Rattle.closing.proofs.closing.unlink_at.Goals as goal
 
 pub bounds-book-i-then-kind_at-gt127 : goal.bounds-book-i-then-kind_at-gt127

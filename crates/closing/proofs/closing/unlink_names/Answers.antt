@@ -1,9 +1,6 @@
 use native.Mathlib.Omega.{arith}
 use mathlib.Core.Path.{refl, ◌∙◌}
-use Prim.Native.Nat.{◌-◌}
 use Rattle.closing.proofs.ClosingLaws.{unlink_step, unlink_end}
-use mathlib.Core.Bool.{not}
-use mathlib.Core.Path.{ap}
 use Rattle.closing.proofs.closing.unlink_names.Goals as goal
 
 pub bounds-st-2 : goal.bounds-st-2

@@ -1,6 +1,4 @@
 use Rattle.closing.proofs.ClosingLaws.{whole_number, whole_other}
-use mathlib.Core.Bool.{not}
-use mathlib.Core.Path.{ap}
 use Rattle.closing.proofs.closing.whole_at.Goals as goal
 
 pub returns-then-call_of-eq3 : goal.returns-then-call_of-eq3

@@ -1,6 +1,6 @@
 use native.Mathlib.Omega.{arith}
 use mathlib.Core.Path.{refl}
-use Prim.Native.Nat.{◌+◌, ◌*◌, ◌-◌, ◌/◌, ◌%◌}
+use Prim.Native.Nat.{◌+◌, ◌*◌, ◌/◌, ◌%◌}
 use lib.ListN.{get_or, length-set}
 use Rattle.labels.proofs.MarkLaws.{index_none, index_start, index_step, index_end, chain_place}
 use Rattle.labels.proofs.marks.index_lines.Goals as goal

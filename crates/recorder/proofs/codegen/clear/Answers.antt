@@ -1,5 +1,4 @@
 use native.Mathlib.Omega.{arith}
-use Prim.Native.Nat.{◌-◌}
 use mathlib.Core.Path.{refl}
 use Rattle.recorder.proofs.Laws.{clear_step, clear_end}
 use Rattle.recorder.proofs.codegen.clear.Goals as goal

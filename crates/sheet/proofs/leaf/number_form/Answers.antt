@@ -1,7 +1,7 @@
 use Rattle.sheet.specs.Form.{number_form}
 use Rattle.sheet.proofs.Walks.{high_at, low_at}
 use Rattle.sheet.proofs.Walks.{then_stop, then_go}
-use Rattle.sheet.specs.Form.{number_form, low_form}
+use Rattle.sheet.specs.Form.{number_form}
 use Rattle.sheet.proofs.leaf.number_form.Goals as goal
 
 pub returns-in_default : goal.returns-in_default

@@ -1,7 +1,6 @@
 use native.Mathlib.Omega.{arith}
 use mathlib.Core.Path.{refl}
-use Prim.Native.Nat.{◌-◌}
-use Rattle.sheet.specs.Form.{item_form, pair_form, list_form, times_form, field_form, fields_form, node_form}
+use Rattle.sheet.specs.Form.{item_form, pair_form, list_form, times_form, field_form, node_form}
 use Rattle.sheet.proofs.Walks.{then_stop, then_go, told, choose_yes, choose_no}
 use Rattle.walk.proofs.Steps.{word_ends, item_ends, pair_ends, field_ends, node_ends}
 use Rattle.walk.proofs.Cycle.{later, head_moves, source_keyboard, source_prompt, source_file, element_expr, element_range, repeat_step, repeat_stop, repeat_end, fields_step, fields_stop, fields_end, body_stop, body_go, node_stop, node_deep, node_fseek, node_body}

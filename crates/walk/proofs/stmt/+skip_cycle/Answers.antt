@@ -1,8 +1,7 @@
 use native.Mathlib.Omega.{arith}
 use mathlib.Core.Path.{refl, ap, ◌∙◌}
-use Prim.Native.Nat.{◌-◌}
 use Rattle.recorder.specs.Word.{next}
-use Rattle.sheet.specs.Skip.{skip_item, skip_pair, skip_times, skip_field, skip_fields, skip_node}
+use Rattle.sheet.specs.Skip.{skip_item, skip_pair, skip_times, skip_field, skip_node}
 use Rattle.sheet.proofs.Walks.{told}
 use Rattle.walk.proofs.Steps.{to_next}
 use Rattle.walk.proofs.Skips.{item_skips, pair_skips, field_skips, node_skips, source_none, source_range, source_file, element_expr, element_range, pair_of, fields_step, fields_end, repeat_step, repeat_end, choose_first, choose_second, node_none, node_end, node_skip}
