@@ -99,14 +99,14 @@ fn run<R: io::Read, W: Write>(
 }
 
 // Sheet and text are one longer than what is accepted, so too much is told as such. An accepted sheet of 65,536 words has at
-// most 65,535 records, 2 notes a word and 1 entry a word.
+// most 65,535 records, 2 notes a word and 1 entry a word. So much stands on the heap.
 fn main(rt: HostRuntime) -> io::Result<()> {
-    let mut words = [0u32; 65537];
-    let mut units = [0u16; 65537];
-    let mut list = [0u32; 327680];
-    let mut notes = [0u32; 524288];
-    let mut book = [0u32; 262144];
-    let mut work = [0u32; 65537];
+    let mut words = vec![in rt.alloc(); 0u32; 65537]?;
+    let mut units = vec![in rt.alloc(); 0u16; 65537]?;
+    let mut list = vec![in rt.alloc(); 0u32; 327680]?;
+    let mut notes = vec![in rt.alloc(); 0u32; 524288]?;
+    let mut book = vec![in rt.alloc(); 0u32; 262144]?;
+    let mut work = vec![in rt.alloc(); 0u32; 65537]?;
     let mut input = BufReader::new(rt.alloc(), rt.reader())?;
     let mut out = BufWriter::new(rt.alloc(), io::writer(&rt))?;
     run(
