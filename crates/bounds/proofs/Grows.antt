@@ -142,7 +142,7 @@ module _ {S : Type 0} {R : Recorder S} {P : Tally → S → Type 0} (κ : Counts
   grow_place want e p = grow_check want (expr_range e) _ (grow_lvalue e p)
 
   -- CIRCLE and its like
-  grow_surplus : {k : Tally} {s : S} (n : ℕ) (es : Exprs) → P k s → P (noted es k) (surplus_notes R t base n es s)
+  grow_surplus : (n : ℕ) (es : Exprs) {k : Tally} {s : S} → P k s → P (noted es k) (surplus_notes R t base n es s)
   unfolding surplus_notes count
   grow_surplus n none p = κ.fit p (omega arith)
   grow_surplus zero (more e es) p = κ.fit (grow_surplus zero es (κ.note p)) (omega arith)
@@ -160,7 +160,7 @@ module _ {S : Type 0} {R : Recorder S} {P : Tally → S → Type 0} (κ : Counts
   unfolding datum_node
   grow_datum d p = let q = κ.datum p in pick_in (ltb 255 (text_size (datum_length t base d))) (κ.note q) (idle 0 1 0 q)
 
-  grow_data : {k : Tally} {s : S} (ds : List Datum) → P k s → P (reads (twos ds) k) (compile_data R t base ds s)
+  grow_data : (ds : List Datum) {k : Tally} {s : S} → P k s → P (reads (twos ds) k) (compile_data R t base ds s)
   unfolding compile_data twos
   grow_data [] p = κ.fit p (omega arith)
   grow_data (d ∷ ds) p = κ.fit (grow_data ds (grow_datum d p)) (omega arith)
@@ -189,13 +189,13 @@ module _ {S : Type 0} {R : Recorder S} {P : Tally → S → Type 0} (κ : Counts
   grow_dim_one (inkey r) p = pass (inkey r) p
   grow_dim_one (error r) p = pass (error r) p
 
-  grow_dim : {k : Tally} {s : S} (es : Exprs) → P k s → P (reads (exprs_words es) k) (compile_dim R t base es s)
+  grow_dim : (es : Exprs) {k : Tally} {s : S} → P k s → P (reads (exprs_words es) k) (compile_dim R t base es s)
   unfolding compile_dim exprs_words
   grow_dim none p = κ.fit p (omega arith)
   grow_dim (more e es) p = κ.fit (grow_dim es (grow_dim_one e p)) (omega arith)
 
   -- FIELD
-  grow_fields : {k : Tally} {s : S} (fs : List FieldSpec) → P k s → P (reads (specs_words fs) k) (compile_fields R t base fs s)
+  grow_fields : (fs : List FieldSpec) {k : Tally} {s : S} → P k s → P (reads (specs_words fs) k) (compile_fields R t base fs s)
   unfolding compile_fields specs_words
   grow_fields [] p = κ.fit p (omega arith)
   grow_fields (f ∷ fs) p = κ.fit (grow_fields fs (grow_place String f.var (grow_typed Real f.len p))) (omega arith)
@@ -247,7 +247,7 @@ module _ {S : Type 0} {R : Recorder S} {P : Tally → S → Type 0} (κ : Counts
   grow_input_var b (inkey r) p = grow_lvalue (inkey r) p
   grow_input_var b (error r) p = grow_lvalue (error r) p
 
-  grow_input_vars : {k : Tally} {s : S} (b : Bool) (es : Exprs) → P k s → P (reads (exprs_words es) k) (input_vars R t base b es s)
+  grow_input_vars : (b : Bool) (es : Exprs) {k : Tally} {s : S} → P k s → P (reads (exprs_words es) k) (input_vars R t base b es s)
   unfolding input_vars exprs_words
   grow_input_vars b none p = κ.fit p (omega arith)
   grow_input_vars b (more e es) p = κ.fit (grow_input_vars b es (grow_input_var b e p)) (omega arith)
@@ -273,7 +273,7 @@ module _ {S : Type 0} {R : Recorder S} {P : Tally → S → Type 0} (κ : Counts
   grow_bad_byte absent r p = κ.note p
   grow_bad_byte (given b) r p = idle 0 1 0 p
 
-  grow_bad_bytes : {k : Tally} {s : S} (es : Exprs) → P k s → P (noted es k) (bad_bytes R t base es s)
+  grow_bad_bytes : (es : Exprs) {k : Tally} {s : S} → P k s → P (noted es k) (bad_bytes R t base es s)
   unfolding bad_bytes count
   grow_bad_bytes none p = κ.fit p (omega arith)
   grow_bad_bytes (more e es) p = κ.fit (grow_bad_bytes es (grow_bad_byte (byte_of t base e) (expr_range e) p)) (omega arith)
@@ -282,7 +282,7 @@ module _ {S : Type 0} {R : Recorder S} {P : Tally → S → Type 0} (κ : Counts
   grow_load_byte absent r p = idle 0 0 1 p
   grow_load_byte (given b) r p = κ.byte p
 
-  grow_load_bytes : {k : Tally} {s : S} (es : Exprs) → P k s → P (entered es k) (load_bytes R t base es s)
+  grow_load_bytes : (es : Exprs) {k : Tally} {s : S} → P k s → P (entered es k) (load_bytes R t base es s)
   unfolding load_bytes count
   grow_load_bytes none p = κ.fit p (omega arith)
   grow_load_bytes (more e es) p = κ.fit (grow_load_bytes es (grow_load_byte (byte_of t base e) (expr_range e) p)) (omega arith)
@@ -312,7 +312,7 @@ module _ {S : Type 0} {R : Recorder S} {P : Tally → S → Type 0} (κ : Counts
       let q = grow_sym v p in
       κ.fit (κ.emit refl (pick_in (matches_type (compile_sym R t base v s).ty Real) (idle 0 1 0 q) (κ.note q))) (omega arith)
 
-  grow_next_each : {k : Tally} {s : S} (n : ℕ) (r : Range) (vs : List (Opt Range)) → P k s → P (reads (ones vs) k) (next_each R t base n r vs s)
+  grow_next_each : (n : ℕ) (r : Range) (vs : List (Opt Range)) {k : Tally} {s : S} → P k s → P (reads (ones vs) k) (next_each R t base n r vs s)
   unfolding next_each ones
   grow_next_each n r [] p = κ.fit p (omega arith)
   grow_next_each n r (v ∷ vs) p = κ.fit (grow_next_each n r vs (grow_next_one n r v p)) (omega arith)
@@ -323,7 +323,7 @@ module _ {S : Type 0} {R : Recorder S} {P : Tally → S → Type 0} (κ : Counts
   grow_next r (v ∷ vs) p = κ.fit (grow_next_each (length (v ∷ vs)) r (v ∷ vs) p) (omega arith)
 
   -- ON
-  grow_on : {k : Tally} {s : S} (sub : ℕ) (xs : List OnTarget) → P k s → P (reads (twos xs) k) (on_jumps R t base sub xs s)
+  grow_on : (sub : ℕ) (xs : List OnTarget) {k : Tally} {s : S} → P k s → P (reads (twos xs) k) (on_jumps R t base sub xs s)
   unfolding on_jumps twos
   grow_on sub [] p = κ.fit p (omega arith)
   grow_on sub (x ∷ xs) p = κ.fit (grow_on sub xs (κ.emit_any p)) (omega arith)
@@ -373,7 +373,7 @@ module _ {S : Type 0} {R : Recorder S} {P : Tally → S → Type 0} (κ : Counts
   grow_empty_line r (x ∷ xs) p = idle 1 0 0 p
 
   -- READ
-  grow_read : {k : Tally} {s : S} (es : Exprs) → P k s → P (reads (exprs_words es) k) (compile_read R t base es s)
+  grow_read : (es : Exprs) {k : Tally} {s : S} → P k s → P (reads (exprs_words es) k) (compile_read R t base es s)
   unfolding compile_read exprs_words
   grow_read none p = κ.fit p (omega arith)
   grow_read (more e es) p = κ.fit (grow_read es (κ.emit refl (grow_lvalue e p))) (omega arith)
@@ -393,7 +393,7 @@ module _ {S : Type 0} {R : Recorder S} {P : Tally → S → Type 0} (κ : Counts
       pick_in (either b (eqb d.comma 1)) (idle 0 1 0 (κ.emit (other_pick (matches_type x Real) 44 45 refl refl) p))
       (κ.emit (other_pick (matches_type x Real) 46 47 refl refl) (κ.note p))
 
-  grow_write_each : {k : Tally} {s : S} (n : ℕ) (ds : List WriteElement) → P k s → P (reads (written_words ds) k) (write_each R t base n ds s)
+  grow_write_each : (n : ℕ) (ds : List WriteElement) {k : Tally} {s : S} → P k s → P (reads (written_words ds) k) (write_each R t base n ds s)
   unfolding write_each written_words
   grow_write_each n [] p = κ.fit p (omega arith)
   grow_write_each n (d ∷ ds) p = κ.fit (grow_write_each n ds (grow_write_value n d (is_last ds) _ (grow_expr d.datum p))) (omega arith)

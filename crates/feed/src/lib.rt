@@ -3,7 +3,7 @@
 
 ghost use Rattle.std.specs.Prelude.{◌≡◌, ◌+◌, ◌*◌, ◌≤◌, min};
 
-use libc::{STDIN_FILENO, STDOUT_FILENO};
+use std::io;
 
 // A number that was read, or the end of the input.
 #[derive(Clone, Copy)]
@@ -24,23 +24,35 @@ fn unit_of(a: u8, b: u8) -> u16
     a as u16 + 256 * (b as u16)
 }
 
-fn read_word() -> Read {
-    let mut b = [0u8; 4];
-    let got = io::read_full(STDIN_FILENO, &mut b);
-    if got < 4 {
-        return Read::End;
+// Fills the bytes; false if the input ends before.
+fn fill<R: io::Read>(input: &mut R, bytes: &mut [u8]) -> io::Result<bool> {
+    match input.read_exact(bytes) {
+        Ok(()) => Ok(true),
+        Err(e) => {
+            if e.kind() == io::ErrorKind::UnexpectedEof {
+                Ok(false)
+            } else {
+                Err(e)
+            }
+        }
     }
-    Read::Number(word_of(b[0], b[1], b[2], b[3]))
 }
 
-fn read_unit() -> Read {
+fn read_word<R: io::Read>(input: &mut R) -> io::Result<Read> {
+    let mut b = [0u8; 4];
+    if !fill(input, &mut b)? {
+        return Ok(Read::End);
+    }
+    Ok(Read::Number(word_of(b[0], b[1], b[2], b[3])))
+}
+
+fn read_unit<R: io::Read>(input: &mut R) -> io::Result<Read> {
     let mut b = [0u8; 2];
-    let got = io::read_full(STDIN_FILENO, &mut b);
-    if got < 2 {
-        return Read::End;
+    if !fill(input, &mut b)? {
+        return Ok(Read::End);
     }
     let u = unit_of(b[0], b[1]);
-    Read::Number(u as u32)
+    Ok(Read::Number(u as u32))
 }
 
 fn put_word(words: &mut [u32], i: usize, w: u32) {
@@ -56,31 +68,27 @@ fn put_unit(units: &mut [u16], i: usize, u: u32) {
 }
 
 // Reads n words. What does not fit the array is read and dropped; false if the input ends before.
-pub fn read_words(words: &mut [u32], n: u32) -> bool {
-    let mut i = 0;
-    while i < n {
-        let r = read_word();
+pub fn read_words<R: io::Read>(input: &mut R, words: &mut [u32], n: u32) -> io::Result<bool> {
+    for i in 0..n {
+        let r = read_word(input)?;
         let Read::Number(w) = r else {
-            return false;
+            return Ok(false);
         };
         put_word(words, i as usize, w);
-        i += 1;
     }
-    true
+    Ok(true)
 }
 
 // Reads n units likewise.
-pub fn read_units(units: &mut [u16], n: u32) -> bool {
-    let mut i = 0;
-    while i < n {
-        let r = read_unit();
+pub fn read_units<R: io::Read>(input: &mut R, units: &mut [u16], n: u32) -> io::Result<bool> {
+    for i in 0..n {
+        let r = read_unit(input)?;
         let Read::Number(u) = r else {
-            return false;
+            return Ok(false);
         };
         put_unit(units, i as usize, u);
-        i += 1;
     }
-    true
+    Ok(true)
 }
 
 // A count of what was read, cut to what there is.
@@ -91,48 +99,51 @@ pub fn least(n: u32, most: usize) -> usize
     if k < most { k } else { most }
 }
 
-pub fn print(text: &[u8]) -> bool {
-    io::write_all(STDOUT_FILENO, text)
+pub fn print<W: io::Write>(out: &mut W, text: &[u8]) -> io::Result<()> {
+    out.write_all(text)
 }
 
-pub fn print_number(n: u32) -> bool {
-    io::print_decimal(STDOUT_FILENO, n as u64)
+pub fn print_number<W: io::Write>(out: &mut W, n: u32) -> io::Result<()> {
+    write!(out, "{n}")
 }
 
 // A blank and the number.
-pub fn print_next(n: u32) -> bool {
-    print(b" ");
-    print_number(n)
+pub fn print_next<W: io::Write>(out: &mut W, n: u32) -> io::Result<()> {
+    print(out, b" ")?;
+    print_number(out, n)
 }
 
 // A blank and the size.
-pub fn print_size(n: usize) -> bool {
-    print(b" ");
-    io::print_decimal(STDOUT_FILENO, n as u64)
+pub fn print_size<W: io::Write>(out: &mut W, n: usize) -> io::Result<()> {
+    print(out, b" ")?;
+    write!(out, "{n}")
 }
 
 // The mark and the numbers of a row, on a line.
-fn print_row(mark: &[u8], row: &[u32]) -> bool {
-    print(mark);
-    let mut i = 0;
-    while i < row.len() {
-        print_next(row[i]);
-        i += 1;
+fn print_row<W: io::Write>(out: &mut W, mark: &[u8], row: &[u32]) -> io::Result<()> {
+    print(out, mark)?;
+    for n in row {
+        print_next(out, *n)?;
     }
-    print(b"\n")
+    print(out, b"\n")
 }
 
 // So many rows of that size, from the front of the words.
-pub fn print_rows(mark: &[u8], words: &[u32], size: usize, count: usize) {
-    let mut at = 0;
-    let mut k = 0;
-    while k < count {
-        if words.len() - at < size {
-            return;
+pub fn print_rows<W: io::Write>(
+    out: &mut W,
+    mark: &[u8],
+    words: &[u32],
+    size: usize,
+    count: usize,
+) -> io::Result<()> {
+    let mut rest = words;
+    for _ in 0..count {
+        if rest.len() < size {
+            return Ok(());
         }
-        let end = at + size;
-        print_row(mark, &words[at..end]);
-        at = end;
-        k += 1;
+        let (row, others) = rest.split_at(size);
+        print_row(out, mark, row)?;
+        rest = others;
     }
+    Ok(())
 }

@@ -6,85 +6,98 @@ ghost use Rattle.rules.specs.Outcome.{lengths, outcome};
 ghost use Rattle.compiler.specs.Answered.{outcome_of};
 
 use compiler::Answer;
+use std::io;
+use std::io::{BufReader, BufWriter, Write};
 
 // A record a line: address, line, call, three arguments.
-fn print_record(at: u32, head: u32, a: u32, b: u32, c: u32) -> bool {
-    feed::print_number(at);
-    feed::print_next(recorder::word::payload_of(head));
-    feed::print_next(recorder::word::kind_of(head));
-    feed::print_next(a);
-    feed::print_next(b);
-    feed::print_next(c);
-    feed::print(b"\n")
+fn print_record<W: Write>(
+    out: &mut W,
+    at: u32,
+    head: u32,
+    a: u32,
+    b: u32,
+    c: u32,
+) -> io::Result<()> {
+    feed::print_number(out, at)?;
+    feed::print_next(out, recorder::word::payload_of(head))?;
+    feed::print_next(out, recorder::word::kind_of(head))?;
+    feed::print_next(out, a)?;
+    feed::print_next(out, b)?;
+    feed::print_next(out, c)?;
+    feed::print(out, b"\n")
 }
 
 // A note a line: "note", class, line, start, end.
-fn print_note(head: u32, range: u32) -> bool {
+fn print_note<W: Write>(out: &mut W, head: u32, range: u32) -> io::Result<()> {
     let r = recorder::word::range_of(range);
-    feed::print(b"note");
-    feed::print_next(recorder::word::kind_of(head));
-    feed::print_next(recorder::word::payload_of(head));
-    feed::print_next(r.start as u32);
-    feed::print_next(r.end as u32);
-    feed::print(b"\n")
+    feed::print(out, b"note")?;
+    feed::print_next(out, recorder::word::kind_of(head))?;
+    feed::print_next(out, recorder::word::payload_of(head))?;
+    feed::print_next(out, r.start as u32)?;
+    feed::print_next(out, r.end as u32)?;
+    feed::print(out, b"\n")
 }
 
-fn print_records(list: &[u32], count: u32) {
-    let mut at = 0;
-    let mut k = 0;
-    while k < count {
-        if list.len() - at < 5 {
-            return;
+fn print_records<W: Write>(out: &mut W, list: &[u32], count: u32) -> io::Result<()> {
+    let mut rest = list;
+    for k in 0..count {
+        if rest.len() < 5 {
+            return Ok(());
         }
-        print_record(k, list[at], list[at + 2], list[at + 3], list[at + 4]);
-        at += 5;
-        k += 1;
+        let (record, others) = rest.split_at(5);
+        print_record(out, k, record[0], record[2], record[3], record[4])?;
+        rest = others;
     }
+    Ok(())
 }
 
-fn print_notes(notes: &[u32], count: usize) {
-    let mut at = 0;
-    let mut k = 0;
-    while k < count {
-        if notes.len() - at < 4 {
-            return;
+fn print_notes<W: Write>(out: &mut W, notes: &[u32], count: usize) -> io::Result<()> {
+    let mut rest = notes;
+    for _ in 0..count {
+        if rest.len() < 4 {
+            return Ok(());
         }
-        print_note(notes[at], notes[at + 1]);
-        at += 4;
-        k += 1;
+        let (note, others) = rest.split_at(4);
+        print_note(out, note[0], note[1])?;
+        rest = others;
     }
+    Ok(())
 }
 
-fn refused(number: u32) {
-    feed::print(b"refused");
-    feed::print_next(number);
-    feed::print(b"\n");
+fn refused<W: Write>(out: &mut W, number: u32) -> io::Result<()> {
+    feed::print(out, b"refused")?;
+    feed::print_next(out, number)?;
+    feed::print(out, b"\n")
 }
 
-fn show(r: Answer, list: &[u32], notes: &[u32]) {
+fn show<W: Write>(out: &mut W, r: Answer, list: &[u32], notes: &[u32]) -> io::Result<()> {
     if r.refusal != 0 {
-        refused(r.refusal);
-        return;
+        return refused(out, r.refusal);
     }
-    print_records(list, r.records);
-    print_notes(notes, r.notes);
+    print_records(out, list, r.records)?;
+    print_notes(out, notes, r.notes)
 }
 
 // Reads one input; false if it is above 2,048 of either or short.
-fn read(words: &mut [u32], units: &mut [u16], counts: &mut [u32; 2]) -> bool {
-    if !feed::read_words(counts, 2) {
-        return false;
+fn read<R: io::Read>(
+    input: &mut R,
+    words: &mut [u32],
+    units: &mut [u16],
+    counts: &mut [u32; 2],
+) -> io::Result<bool> {
+    if !feed::read_words(input, counts, 2)? {
+        return Ok(false);
     }
     if counts[0] > 2048 {
-        return false;
+        return Ok(false);
     }
     if counts[1] > 2048 {
-        return false;
+        return Ok(false);
     }
-    if !feed::read_words(words, counts[0]) {
-        return false;
+    if !feed::read_words(input, words, counts[0])? {
+        return Ok(false);
     }
-    feed::read_units(units, counts[1])
+    feed::read_units(input, units, counts[1])
 }
 
 // "Its buffers suffice": so many words make at most 2,730 records of five words, 4,096 notes and 2,048 entries of four.
@@ -110,7 +123,8 @@ fn compile_form(
     compiler::compile(words, units, list, notes, book, work)
 }
 
-fn list_of(
+fn list_of<W: Write>(
+    out: &mut W,
     words: &[u32],
     units: &[u16],
     counts: &[u32; 2],
@@ -118,14 +132,14 @@ fn list_of(
     notes: &mut [u32; NOTES],
     book: &mut [u32; BOOK],
     work: &mut [u32; WORDS],
-) {
+) -> io::Result<()> {
     let a = feed::least(counts[0], words.len());
     let b = feed::least(counts[1], units.len());
     let r = compile_form(&words[..a], &units[..b], list, notes, book, work);
-    show(r, list, notes);
+    show(out, r, list, notes)
 }
 
-fn main() {
+fn main(rt: HostRuntime) -> io::Result<()> {
     let mut counts = [0u32; 2];
     let mut words = [0u32; WORDS];
     let mut units = [0u16; WORDS];
@@ -133,11 +147,14 @@ fn main() {
     let mut notes = [0u32; NOTES];
     let mut book = [0u32; BOOK];
     let mut work = [0u32; WORDS];
-    if read(&mut words, &mut units, &mut counts) {
+    let mut input = BufReader::new(rt.alloc(), rt.reader())?;
+    let mut out = BufWriter::new(rt.alloc(), io::writer(&rt))?;
+    if read(&mut input, &mut words, &mut units, &mut counts)? {
         list_of(
-            &words, &units, &counts, &mut list, &mut notes, &mut book, &mut work,
-        );
+            &mut out, &words, &units, &counts, &mut list, &mut notes, &mut book, &mut work,
+        )?;
     } else {
-        refused(1);
+        refused(&mut out, 1)?;
     }
+    out.flush()
 }
