@@ -363,7 +363,7 @@ module _ {S : Type 0} {R : Recorder S} {P : Tally → S → Type 0} (κ : Counts
   grow_print_one r (comma er) xs p = κ.fit (κ.emit refl p) (omega arith)
   grow_print_one r (semicolon er) xs p = κ.fit p (omega arith)
 
-  grow_print_each : {k : Tally} {s : S} (r : Range) (xs : List PrintElement) → P k s → P (reads (elements_words xs) k) (print_each R t base r xs s)
+  grow_print_each : (r : Range) (xs : List PrintElement) {k : Tally} {s : S} → P k s → P (reads (elements_words xs) k) (print_each R t base r xs s)
   unfolding print_each elements_words
   grow_print_each r [] p = κ.fit p (omega arith)
   grow_print_each r (x ∷ xs) p = κ.fit (grow_print_each r xs (grow_print_one r x xs p)) (omega arith)
