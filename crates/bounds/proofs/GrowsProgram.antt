@@ -153,17 +153,17 @@ restore_waits r = go (ltb 0 r.b) (eqb r.call 20) (eqb r.call 21)
     go true false false e = rw e
     go false p q e = never (sym e)
 
-labels_room : {k : Tally} {i : Ideal} (t : List ℕ) (ms : List Mark) (at n : ℕ) → Room k i → Room k (resolve_labels (rules_r t) ms at n i)
+labels_room : (t : List ℕ) (ms : List Mark) (at n : ℕ) {k : Tally} {i : Ideal} → Room k i → Room k (resolve_labels (rules_r t) ms at n i)
 unfolding resolve_labels
 labels_room t ms at zero p = p
-labels_room {i = i} t ms at (suc n) p =
+labels_room t ms at (suc n) {i = i} p =
     let r = rec_at i.records at in
     labels_room t ms (at + 1) n (step_room t (addr_of ms (r.b - 1)) 2 1 at (is_pending_jump (look_of r)) (jump_waits r) p)
 
-data_room : {k : Tally} {i : Ideal} (t : List ℕ) (ms : List Mark) (at n : ℕ) → Room k i → Room k (resolve_datum_indices (rules_r t) ms at n i)
+data_room : (t : List ℕ) (ms : List Mark) (at n : ℕ) {k : Tally} {i : Ideal} → Room k i → Room k (resolve_datum_indices (rules_r t) ms at n i)
 unfolding resolve_datum_indices
 data_room t ms at zero p = p
-data_room {i = i} t ms at (suc n) p =
+data_room t ms at (suc n) {i = i} p =
     let r = rec_at i.records at in
     data_room t ms (at + 1) n (step_room t (data_of ms (r.b - 1)) 3 2 at (is_pending_restore (look_of r)) (restore_waits r) p)
 

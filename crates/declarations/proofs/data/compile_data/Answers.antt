@@ -1,0 +1,5 @@
+use Rattle.declarations.proofs.Laws.{at_data}
+use Rattle.declarations.proofs.data.compile_data.Goals as goal
+
+pub returns : goal.returns
+returns c = λ l left k r. at_data _ _ _ _ _ _ _ _ _ _ _ _ c.read_payload-c.ensures (c.data_each.ensures l)
