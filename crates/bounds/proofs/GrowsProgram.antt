@@ -33,7 +33,7 @@ module _ {S : Type 0} {R : Recorder S} {P : Tally → S → Type 0} (κ : Counts
   unfolding compile_line
   grow_line l c p = κ.fit (grow_stmts κ t c.base l.stmts (grow_label c.base c.last l.label (κ.begin_line p))) (omega arith)
 
-  grow_lines : {k : Tally} (ls : List ProgramLine) (c : Lines S) → P k c.state → P (reads (lines_words ls) k) (compile_lines R t ls c).state
+  grow_lines : (ls : List ProgramLine) (c : Lines S) {k : Tally} → P k c.state → P (reads (lines_words ls) k) (compile_lines R t ls c).state
   unfolding compile_lines lines_words
   grow_lines [] c p = κ.fit p (omega arith)
   grow_lines (l ∷ ls) c p = κ.fit (grow_lines ls (compile_line R t l c) (grow_line l c p)) (omega arith)
