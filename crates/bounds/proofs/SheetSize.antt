@@ -22,7 +22,7 @@ use Rattle.sheet.specs.Check.{checked}
 use Rattle.sheet.specs.Skip.{skip_item, skip_pair, skip_list, skip_times, skip_field, skip_node}
 use Rattle.sheet.specs.Tree
 use Rattle.sheet.proofs.Shapes.{fields_rule}
-use Rattle.walk.proofs.Within.{Walked, walked, sheet_within}
+use Rattle.walk.proofs.Within.{walked, sheet_within}
 use Rattle.rules.proofs.SheetWalk.{goes_on}
 use Rattle.bounds.specs.Size
 use Rattle.bounds.proofs.SheetWords.{repeat_count, list_count, source_count, element_count, fields_count, node_count, Takes, takes_at, takes_then, takes_less, takes_test, takes_refuse, takes_choose, word_takes, range_takes, list_takes, node_takes}

@@ -12,7 +12,7 @@ use Rattle.sheet.specs.declared.form.Checked.TheVariants.{Accepted, TooLong, Sur
 use Rattle.sheet.specs.declared.form.Offence.TheVariants.{BadWord, TooDeep, BadLength, BadRange, Fseek}
 use Rattle.sheet.specs.Check.{checked}
 use Rattle.sheet.specs.Tree.{program_at}
-use Rattle.walk.proofs.Within.{Walked, walked}
+use Rattle.walk.proofs.Within.{walked}
 use Rattle.rules.specs.Outcome.{Lengths, lengths, accepted, compiled, finished, sized, outcome_by, outcome}
 use Rattle.simulation.proofs.Sim.{how_le}
 use Rattle.bounds.specs.Size.{program_words}

@@ -1,6 +1,6 @@
 -- How much a sheet of so many words can make: "Three times a form's records never exceed four times its sheet's words"
 -- (document 02), at most two notes a word, at most one entry a word.
-use Rattle.std.specs.Prelude.{ℕ, ◌*◌, ◌-◌, ◌/◌, ◌≤◌, length}
+use Rattle.std.specs.Prelude.{ℕ, ◌*◌, ◌/◌, ◌≤◌, length}
 use Rattle.recorder.specs.Ideal.{Ideal}
 use Rattle.recorder.specs.Layout.{rec_size, note_size, entry_size}
 use Rattle.rules.specs.Outcome.{Lengths}

@@ -1,6 +1,5 @@
 use native.Mathlib.Omega.{arith}
 use mathlib.Core.Path.{refl, ◌∙◌}
-use Prim.Native.Nat.{◌-◌}
 use Rattle.program.proofs.LineLaws.{going_start, going_on, going_done}
 use Rattle.program.proofs.line.compile_prog.Goals as goal
 

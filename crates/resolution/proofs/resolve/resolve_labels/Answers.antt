@@ -1,6 +1,6 @@
 use native.Mathlib.Omega.{arith}
 use mathlib.Core.Path.{refl, ap, ◌∙◌}
-use Prim.Native.Nat.{ℕ, ◌-◌}
+use Prim.Native.Nat.{ℕ}
 use Rattle.recorder.specs.Mem.{mem, mem_r}
 use Rattle.rules.specs.Program.{resolve_labels}
 use Rattle.resolution.proofs.ResolveLaws.{labels_jump, labels_other, from_start, labels_done}
