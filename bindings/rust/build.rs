@@ -12,7 +12,7 @@ fn main() {
   };
   let library = folder.join("libhollupsa.a");
   if !library.exists() {
-    panic!("{} is missing: run `rt lib` in crates/hollupsa", library.display());
+    panic!("{} is missing: run tools/library", library.display());
   }
   println!("cargo:rerun-if-changed={}", library.display());
   println!("cargo:rustc-link-search=native={}", folder.display());

@@ -68,6 +68,6 @@ pub fn needed() -> io::Result<()> {
     return Ok(());
   }
   Err(io::Error::other(
-    "built without the library: run `rt lib` in crates/hollupsa, then oracle/build",
+    "built without the library: run tools/library, then oracle/build",
   ))
 }
