@@ -1,1 +1,1 @@
-pub mod Reach
+pub mod Read

@@ -1,162 +1,89 @@
-// Expressions read for acceptance alone. In the cycle sheet and text are passed on as `&&`, one register each, and a line as its
-// two numbers.
-ghost use Rattle.sheet.specs.Table.{expr, non_empty, optional};
-ghost use Rattle.accept_exprs.specs.Reach.{ReachesNode, ReachesField};
+// The form of expressions, walked directly; the table of the form is the definition that the functions follow.
+ghost use Rattle.std.specs.Prelude.{◌≡◌};
+ghost use Rattle.sheet.specs.Table.{node_kind, expr, non_empty, optional};
+ghost use Rattle.accept_exprs.specs.Read.{node_in, field_in};
 
-use crate::leaf::{
-    head_ends, non_empty_ends, number_ends, operator_ends, optional_name_ends, own_ends, word_ends,
-};
+use crate::leaf::{operator_form, own_form};
 use recorder::word::payload_at;
-use sheet::form::Sort;
+use sheet::form::{Offence, Sort, Walk, may_stand};
+use sheet::leaf::{
+    absent_form, head_form, is_absent, non_empty_form, number_form, optional_name_form,
+};
+use walk::stmt::LineForm;
 
 // A count of at least one, and so many expressions.
-#[cycle(ends_cycle)]
-pub fn exprs_ends(
-    sheet: &&[u32],
-    text: &&[u16],
-    base: usize,
-    len: usize,
-    left: usize,
-    at: usize,
-) -> usize
-    ensures { ReachesField sheet.now.now text.now.now base len left (non_empty expr) at result }
+#[inline(always)]
+#[cycle(form_cycle)]
+#[tactic(auto, unfolding(sheet::specs::Form::field_form, sheet::specs::Form::times_form, sheet::specs::Form::list_form, sheet::specs::Form::repeat_form, sheet::specs::Form::pair_form, sheet::specs::Form::item_form), using(walk::proofs::Lines::then_behind))]
+pub fn exprs_form(form: &LineForm, left: usize, at: usize) -> Walk
+    ensures { result ≡ field_in form.now left (non_empty expr) at }
 {
-    let q = non_empty_ends(*sheet, at);
-    if q == 0 {
-        return 0;
+    let mut p = non_empty_form(form.sheet, at)?;
+    for _ in 0..payload_at(form.sheet, at) {
+        p = expr_form(form, left, p)?;
     }
-    let mut p = q;
-    let mut n = payload_at(*sheet, at);
-    while 0 < n {
-        let e = expr_ends(sheet, text, base, len, left, p);
-        if e == 0 {
-            return 0;
-        }
-        p = e;
-        n -= 1;
-    }
-    p
+    Ok(p)
 }
 
 // An expression, with so many depths left, its own among them.
-#[cycle(ends_cycle)]
-pub fn expr_ends(
-    sheet: &&[u32],
-    text: &&[u16],
-    base: usize,
-    len: usize,
-    left: usize,
-    at: usize,
-) -> usize
-    ensures { ReachesNode sheet.now.now text.now.now base len left Sort.Expr at result }
+#[cycle(form_cycle)]
+#[tactic(auto, unfolding(sheet::specs::Form::fields_form, sheet::specs::Form::item_form, sheet::specs::Table::expr_fields), using(crate::proofs::Fields::expr_is, crate::proofs::Fields::expr_deep, crate::proofs::Fields::one_is, crate::proofs::Fields::last_is))]
+pub fn expr_form(form: &LineForm, left: usize, at: usize) -> Walk
+    ensures { result ≡ node_in form.now left Sort.Expr at }
 {
-    let h = head_ends(*sheet, Sort::Expr, at);
-    if h == 0 {
-        return 0;
-    }
+    let h = head_form(form.sheet, Sort::Expr, at)?;
     if left == 0 {
-        return 0;
+        return Err(Offence::TooDeep(at));
     }
-    let k = payload_at(*sheet, at);
-    let q = own_ends(*sheet, *text, base, len, k, h);
-    if q == 0 {
-        return 0;
-    }
+    let k = payload_at(form.sheet, at);
+    let q = own_form(form, k, h)?;
     match k {
-        2 => number_ends(*sheet, q),
+        2 => number_form(form.sheet, q),
         3 => {
-            let p = operator_ends(*sheet, base, len, 34, q);
-            if p == 0 {
-                return 0;
-            }
-            exprs_ends(sheet, text, base, len, left - 1, p)
+            let p = operator_form(form.sheet, form.line, 34, q)?;
+            exprs_form(form, left - 1, p)
         }
         4 => {
-            let p = optional_name_ends(*sheet, *text, base, len, q);
-            if p == 0 {
-                return 0;
-            }
-            expr_ends(sheet, text, base, len, left - 1, p)
+            let p = optional_name_form(form.sheet, form.text, form.line, q)?;
+            expr_form(form, left - 1, p)
         }
         5 => {
-            let p = expr_ends(sheet, text, base, len, left - 1, q);
-            if p == 0 {
-                return 0;
-            }
-            let o = operator_ends(*sheet, base, len, 13, p);
-            if o == 0 {
-                return 0;
-            }
-            expr_ends(sheet, text, base, len, left - 1, o)
+            let p = expr_form(form, left - 1, q)?;
+            let o = operator_form(form.sheet, form.line, 13, p)?;
+            expr_form(form, left - 1, o)
         }
         6 => {
-            let p = operator_ends(*sheet, base, len, 3, q);
-            if p == 0 {
-                return 0;
-            }
-            expr_ends(sheet, text, base, len, left - 1, p)
+            let p = operator_form(form.sheet, form.line, 3, q)?;
+            expr_form(form, left - 1, p)
         }
         7 => {
-            let p = optional_name_ends(*sheet, *text, base, len, q);
-            if p == 0 {
-                return 0;
-            }
-            exprs_ends(sheet, text, base, len, left - 1, p)
+            let p = optional_name_form(form.sheet, form.text, form.line, q)?;
+            exprs_form(form, left - 1, p)
         }
-        _ => q,
+        _ => Ok(q),
     }
 }
 
-// An assigned place: an expression of the cases that may stand there.
-pub fn place_ends(
-    sheet: &&[u32],
-    text: &&[u16],
-    base: usize,
-    len: usize,
-    left: usize,
-    at: usize,
-) -> usize
-    ensures { ReachesNode sheet.now.now text.now.now base len left Sort.Place at result }
+// A place to store, of the sort c: an expression of the cases that may stand there.
+#[tactic(auto, unfolding(sheet::specs::Form::node_form))]
+pub fn place_form(form: &LineForm, left: usize, c: Sort, at: usize) -> Walk
+    ensures { node_kind c ≡ 33 → result ≡ node_in form.now left c at }
 {
-    if sheet::form::may_stand(Sort::Place, payload_at(*sheet, at)) {
-        expr_ends(sheet, text, base, len, left, at)
+    if may_stand(c, payload_at(form.sheet, at)) {
+        expr_form(form, left, at)
     } else {
-        0
-    }
-}
-
-// One of INPUT's places.
-pub fn input_place_ends(
-    sheet: &&[u32],
-    text: &&[u16],
-    base: usize,
-    len: usize,
-    left: usize,
-    at: usize,
-) -> usize
-    ensures { ReachesNode sheet.now.now text.now.now base len left Sort.InputPlace at result }
-{
-    if sheet::form::may_stand(Sort::InputPlace, payload_at(*sheet, at)) {
-        expr_ends(sheet, text, base, len, left, at)
-    } else {
-        0
+        Err(Offence::BadWord(at))
     }
 }
 
 // Absent, or an expression.
-pub fn optional_expr_ends(
-    sheet: &&[u32],
-    text: &&[u16],
-    base: usize,
-    len: usize,
-    left: usize,
-    at: usize,
-) -> usize
-    ensures { ReachesField sheet.now.now text.now.now base len left (optional expr) at result }
+#[tactic(auto, unfolding(sheet::specs::Form::field_form, sheet::specs::Form::times_form))]
+pub fn optional_expr_form(form: &LineForm, left: usize, at: usize) -> Walk
+    ensures { result ≡ field_in form.now left (optional expr) at }
 {
-    if sheet::leaf::is_absent(*sheet, at) {
-        word_ends(*sheet, 2, 1, at)
+    if is_absent(form.sheet, at) {
+        absent_form(form.sheet, at)
     } else {
-        expr_ends(sheet, text, base, len, left, at)
+        expr_form(form, left, at)
     }
 }

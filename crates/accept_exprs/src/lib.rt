@@ -1,4 +1,4 @@
-// The quick walk's lower half: leaves and expressions.
+// The direct walk's lower half: leaves and expressions.
 #![tactic(auto)]
 
 pub mod expr;

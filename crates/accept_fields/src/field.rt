@@ -1,316 +1,220 @@
 // The fields of statements, by a function for each shape that has more than one; the table of the form is the definition that
 // they follow.
-ghost use Rattle.std.specs.Prelude.{◌≡◌, List, ℕ, ◌<◌};
-ghost use Rattle.sheet.specs.declared.form.Item.TheVariants.{Range as range, Source as source};
-ghost use Rattle.sheet.specs.declared.form.Shape.TheVariants.{Op2, Op3, Set, Def, Field, For, GoTo, Input, Locate, On, Open, Swap, Write};
+ghost use Rattle.std.specs.Prelude.{◌≡◌};
+ghost use Rattle.sheet.specs.declared.form.Item.TheVariants.{Range as range, Source as source, Element as element};
+ghost use Rattle.sheet.specs.declared.form.Shape.TheVariants.{Op2, Op3, Set, Def, Field, For, GoTo, If, Input, Locate, On, Open, Swap, Write};
 ghost use Rattle.sheet.specs.Table.{expr, optional₂, shape_fields};
-ghost use Rattle.walk.specs.Shapes.{shape_by};
-ghost use Rattle.accept_exprs.specs.Reach.{ReachesItem, ReachesField, ReachesFields};
+ghost use Rattle.accept_exprs.specs.Read.{item_in, field_in, fields_in};
 
-use crate::list::{Listed, list_ends, some_ends};
-use accept_exprs::expr::{expr_ends, exprs_ends, optional_expr_ends, place_ends};
-use accept_exprs::leaf::{optional_name_ends, range_ends, target_ends, text_ends, word_ends};
+use crate::list::{list_form, some_form};
+use accept_exprs::expr::{expr_form, exprs_form, optional_expr_form, place_form};
 use recorder::word::payload_at;
+use sheet::form::{Kind, Shape, Sort, Walk};
+use sheet::leaf::{
+    absent_form, datum_form, is_absent, label_form, optional_label_form, optional_name_form,
+    range_form, take_word, text_form,
+};
+use walk::stmt::LineForm;
 
 // GET, PUT, POKE, FPUTC: two expressions.
-fn two_ends(sheet: &&[u32], text: &&[u16], base: usize, len: usize, left: usize, at: usize) -> usize
-    ensures { ReachesFields sheet.now.now text.now.now base len left (shape_fields Op2) at result }
+#[tactic(auto, unfolding(sheet::specs::Form::fields_form, sheet::specs::Form::field_form, sheet::specs::Form::times_form, sheet::specs::Form::pair_form, sheet::specs::Form::item_form), using(accept_exprs::proofs::Fields::one_is, accept_exprs::proofs::Fields::last_is, walk::proofs::Lines::then_behind, walk::proofs::Lines::alone))]
+fn two_form(form: &LineForm, left: usize, at: usize) -> Walk
+    ensures { result ≡ fields_in form.now left (shape_fields Op2) at }
 {
-    let p = expr_ends(sheet, text, base, len, left, at);
-    if p == 0 {
-        return 0;
-    }
-    expr_ends(sheet, text, base, len, left, p)
+    let p = expr_form(form, left, at)?;
+    expr_form(form, left, p)
 }
 
 // FREAD, FWRITE: three.
-fn three_ends(
-    sheet: &&[u32],
-    text: &&[u16],
-    base: usize,
-    len: usize,
-    left: usize,
-    at: usize,
-) -> usize
-    ensures { ReachesFields sheet.now.now text.now.now base len left (shape_fields Op3) at result }
+#[tactic(auto, unfolding(sheet::specs::Form::fields_form, sheet::specs::Form::field_form, sheet::specs::Form::times_form, sheet::specs::Form::pair_form, sheet::specs::Form::item_form), using(accept_exprs::proofs::Fields::one_is, accept_exprs::proofs::Fields::last_is, walk::proofs::Lines::then_behind, walk::proofs::Lines::alone))]
+fn three_form(form: &LineForm, left: usize, at: usize) -> Walk
+    ensures { result ≡ fields_in form.now left (shape_fields Op3) at }
 {
-    let p = expr_ends(sheet, text, base, len, left, at);
-    if p == 0 {
-        return 0;
-    }
-    two_ends(sheet, text, base, len, left, p)
+    let p = expr_form(form, left, at)?;
+    two_form(form, left, p)
 }
 
 // LET, LSET, RSET: a place and its value.
-fn set_ends(sheet: &&[u32], text: &&[u16], base: usize, len: usize, left: usize, at: usize) -> usize
-    ensures { ReachesFields sheet.now.now text.now.now base len left (shape_fields Set) at result }
+#[tactic(auto, unfolding(sheet::specs::Form::fields_form, sheet::specs::Form::field_form, sheet::specs::Form::times_form, sheet::specs::Form::pair_form, sheet::specs::Form::item_form), using(accept_exprs::proofs::Fields::one_is, accept_exprs::proofs::Fields::last_is, walk::proofs::Lines::then_behind, walk::proofs::Lines::alone))]
+fn set_form(form: &LineForm, left: usize, at: usize) -> Walk
+    ensures { result ≡ fields_in form.now left (shape_fields Set) at }
 {
-    let p = place_ends(sheet, text, base, len, left, at);
-    if p == 0 {
-        return 0;
-    }
-    expr_ends(sheet, text, base, len, left, p)
+    let p = place_form(form, left, Sort::Place, at)?;
+    expr_form(form, left, p)
 }
 
 // SWAP: two places.
-fn swap_ends(
-    sheet: &&[u32],
-    text: &&[u16],
-    base: usize,
-    len: usize,
-    left: usize,
-    at: usize,
-) -> usize
-    ensures { ReachesFields sheet.now.now text.now.now base len left (shape_fields Swap) at result }
+#[tactic(auto, unfolding(sheet::specs::Form::fields_form, sheet::specs::Form::field_form, sheet::specs::Form::times_form, sheet::specs::Form::pair_form, sheet::specs::Form::item_form), using(accept_exprs::proofs::Fields::one_is, accept_exprs::proofs::Fields::last_is, walk::proofs::Lines::then_behind, walk::proofs::Lines::alone))]
+fn swap_form(form: &LineForm, left: usize, at: usize) -> Walk
+    ensures { result ≡ fields_in form.now left (shape_fields Swap) at }
 {
-    let p = place_ends(sheet, text, base, len, left, at);
-    if p == 0 {
-        return 0;
-    }
-    place_ends(sheet, text, base, len, left, p)
+    let p = place_form(form, left, Sort::Place, at)?;
+    place_form(form, left, Sort::Place, p)
 }
 
 // DEF: its name, its parameter, its body.
-fn def_ends(sheet: &&[u32], text: &&[u16], base: usize, len: usize, left: usize, at: usize) -> usize
-    ensures { ReachesFields sheet.now.now text.now.now base len left (shape_fields Def) at result }
+#[tactic(auto, unfolding(sheet::specs::Form::fields_form, sheet::specs::Form::field_form, sheet::specs::Form::times_form, sheet::specs::Form::pair_form, sheet::specs::Form::item_form), using(accept_exprs::proofs::Fields::one_is, accept_exprs::proofs::Fields::last_is, walk::proofs::Lines::then_behind, walk::proofs::Lines::alone))]
+fn def_form(form: &LineForm, left: usize, at: usize) -> Walk
+    ensures { result ≡ fields_in form.now left (shape_fields Def) at }
 {
-    let p = optional_name_ends(*sheet, *text, base, len, at);
-    if p == 0 {
-        return 0;
-    }
-    let q = optional_name_ends(*sheet, *text, base, len, p);
-    if q == 0 {
-        return 0;
-    }
-    expr_ends(sheet, text, base, len, left, q)
+    let p = optional_name_form(form.sheet, form.text, form.line, at)?;
+    let q = optional_name_form(form.sheet, form.text, form.line, p)?;
+    expr_form(form, left, q)
 }
 
 // FIELD: a file, then lengths and variables.
-fn field_ends(
-    sheet: &&[u32],
-    text: &&[u16],
-    base: usize,
-    len: usize,
-    left: usize,
-    at: usize,
-) -> usize
-    ensures { ReachesFields sheet.now.now text.now.now base len left (shape_fields Field) at result }
+#[tactic(auto, unfolding(sheet::specs::Form::fields_form, sheet::specs::Form::field_form, sheet::specs::Form::times_form, sheet::specs::Form::pair_form, sheet::specs::Form::item_form), using(accept_exprs::proofs::Fields::one_is, accept_exprs::proofs::Fields::last_is, walk::proofs::Lines::then_behind, walk::proofs::Lines::alone))]
+fn field_form(form: &LineForm, left: usize, at: usize) -> Walk
+    ensures { result ≡ fields_in form.now left (shape_fields Field) at }
 {
-    let p = expr_ends(sheet, text, base, len, left, at);
-    if p == 0 {
-        return 0;
-    }
-    some_ends(sheet, text, base, len, left, Listed::Spec, p)
+    let p = expr_form(form, left, at)?;
+    some_form(form, p, |q| {
+        let v = expr_form(form, left, q)?;
+        place_form(form, left, Sort::Place, v)
+    })
 }
 
 // FOR: its counter, start and end, and a step or none.
-fn for_ends(sheet: &&[u32], text: &&[u16], base: usize, len: usize, left: usize, at: usize) -> usize
-    ensures { ReachesFields sheet.now.now text.now.now base len left (shape_fields For) at result }
+#[tactic(auto, unfolding(sheet::specs::Form::fields_form, sheet::specs::Form::field_form, sheet::specs::Form::times_form, sheet::specs::Form::pair_form, sheet::specs::Form::item_form), using(accept_exprs::proofs::Fields::one_is, accept_exprs::proofs::Fields::last_is, walk::proofs::Lines::then_behind, walk::proofs::Lines::alone))]
+fn for_form(form: &LineForm, left: usize, at: usize) -> Walk
+    ensures { result ≡ fields_in form.now left (shape_fields For) at }
 {
-    let p = optional_name_ends(*sheet, *text, base, len, at);
-    if p == 0 {
-        return 0;
-    }
-    let q = expr_ends(sheet, text, base, len, left, p);
-    if q == 0 {
-        return 0;
-    }
-    let e = expr_ends(sheet, text, base, len, left, q);
-    if e == 0 {
-        return 0;
-    }
-    optional_expr_ends(sheet, text, base, len, left, e)
+    let p = optional_name_form(form.sheet, form.text, form.line, at)?;
+    let q = expr_form(form, left, p)?;
+    let e = expr_form(form, left, q)?;
+    optional_expr_form(form, left, e)
 }
 
 // GOTO: whether the keyword is written, and its target.
-fn goto_ends(sheet: &[u32], base: usize, len: usize, at: usize) -> usize
-    ensures { (t : List ℕ) (left : ℕ) → ReachesFields sheet.now t base len left (shape_fields GoTo) at result }
+#[tactic(auto, unfolding(sheet::specs::Form::label_form, sheet::specs::Form::fields_form, sheet::specs::Form::field_form, sheet::specs::Form::times_form, sheet::specs::Form::pair_form, sheet::specs::Form::item_form), using(accept_exprs::proofs::Fields::one_is, accept_exprs::proofs::Fields::last_is, walk::proofs::Lines::then_behind, walk::proofs::Lines::alone))]
+fn goto_form(form: &LineForm, left: usize, at: usize) -> Walk
+    ensures { result ≡ fields_in form.now left (shape_fields GoTo) at }
 {
-    let p = word_ends(sheet, 5, 2, at);
-    if p == 0 {
-        return 0;
-    }
-    target_ends(sheet, base, len, p)
+    let p = take_word(form.sheet, Kind::Flag, 2, at)?;
+    label_form(form.sheet, form.line, p)
 }
 
 // INPUT's source: the keyboard, the keyboard and a prompt, or a file.
-fn source_ends(
-    sheet: &&[u32],
-    text: &&[u16],
-    base: usize,
-    len: usize,
-    left: usize,
-    at: usize,
-) -> usize
-    ensures { ReachesItem sheet.now.now text.now.now base len left source at result }
+#[tactic(auto, unfolding(sheet::specs::Form::fields_form, sheet::specs::Form::field_form, sheet::specs::Form::times_form, sheet::specs::Form::pair_form, sheet::specs::Form::item_form), using(accept_exprs::proofs::Fields::one_is, accept_exprs::proofs::Fields::last_is, walk::proofs::Lines::then_behind, walk::proofs::Lines::alone))]
+fn source_form(form: &LineForm, left: usize, at: usize) -> Walk
+    ensures { result ≡ item_in form.now left source at }
 {
-    let p = word_ends(*sheet, 7, 3, at);
-    if p == 0 {
-        return 0;
+    let p = take_word(form.sheet, Kind::Source, 3, at)?;
+    match payload_at(form.sheet, at) {
+        0 => Ok(p),
+        1 => text_form(form.sheet, form.line, p),
+        _ => expr_form(form, left, p),
     }
-    let n = payload_at(*sheet, at);
-    if n == 0 {
-        return p;
-    }
-    if n == 1 {
-        return text_ends(*sheet, base, len, p);
-    }
-    expr_ends(sheet, text, base, len, left, p)
 }
 
 // INPUT: where it reads from, and its places.
-fn input_ends(
-    sheet: &&[u32],
-    text: &&[u16],
-    base: usize,
-    len: usize,
-    left: usize,
-    at: usize,
-) -> usize
-    ensures { ReachesFields sheet.now.now text.now.now base len left (shape_fields Input) at result }
+#[tactic(auto, unfolding(sheet::specs::Form::fields_form, sheet::specs::Form::field_form, sheet::specs::Form::times_form, sheet::specs::Form::pair_form, sheet::specs::Form::item_form), using(accept_exprs::proofs::Fields::one_is, accept_exprs::proofs::Fields::last_is, walk::proofs::Lines::then_behind, walk::proofs::Lines::alone))]
+fn input_form(form: &LineForm, left: usize, at: usize) -> Walk
+    ensures { result ≡ fields_in form.now left (shape_fields Input) at }
 {
-    let p = source_ends(sheet, text, base, len, left, at);
-    if p == 0 {
-        return 0;
-    }
-    some_ends(sheet, text, base, len, left, Listed::InputPlace, p)
+    let p = source_form(form, left, at)?;
+    some_form(form, p, |q| place_form(form, left, Sort::InputPlace, q))
 }
 
 // LOCATE: a row and a column, each of which may be absent.
-fn locate_ends(
-    sheet: &&[u32],
-    text: &&[u16],
-    base: usize,
-    len: usize,
-    left: usize,
-    at: usize,
-) -> usize
-    ensures { ReachesFields sheet.now.now text.now.now base len left (shape_fields Locate) at result }
+#[tactic(auto, unfolding(sheet::specs::Form::fields_form, sheet::specs::Form::field_form, sheet::specs::Form::times_form, sheet::specs::Form::pair_form, sheet::specs::Form::item_form), using(accept_exprs::proofs::Fields::one_is, accept_exprs::proofs::Fields::last_is, walk::proofs::Lines::then_behind, walk::proofs::Lines::alone))]
+fn locate_form(form: &LineForm, left: usize, at: usize) -> Walk
+    ensures { result ≡ fields_in form.now left (shape_fields Locate) at }
 {
-    let p = optional_expr_ends(sheet, text, base, len, left, at);
-    if p == 0 {
-        return 0;
-    }
-    optional_expr_ends(sheet, text, base, len, left, p)
+    let p = optional_expr_form(form, left, at)?;
+    optional_expr_form(form, left, p)
 }
 
 // ON: its condition, its targets, and whether they are GOSUBs.
-fn on_ends(sheet: &&[u32], text: &&[u16], base: usize, len: usize, left: usize, at: usize) -> usize
-    ensures { ReachesFields sheet.now.now text.now.now base len left (shape_fields On) at result }
+#[tactic(auto, unfolding(sheet::specs::Form::fields_form, sheet::specs::Form::field_form, sheet::specs::Form::times_form, sheet::specs::Form::pair_form, sheet::specs::Form::item_form), using(accept_exprs::proofs::Fields::one_is, accept_exprs::proofs::Fields::last_is, walk::proofs::Lines::then_behind, walk::proofs::Lines::alone))]
+fn on_form(form: &LineForm, left: usize, at: usize) -> Walk
+    ensures { result ≡ fields_in form.now left (shape_fields On) at }
 {
-    let p = expr_ends(sheet, text, base, len, left, at);
-    if p == 0 {
-        return 0;
-    }
-    let q = some_ends(sheet, text, base, len, left, Listed::Target, p);
-    if q == 0 {
-        return 0;
-    }
-    word_ends(*sheet, 5, 2, q)
+    let p = expr_form(form, left, at)?;
+    let q = some_form(form, p, |t| {
+        let l = range_form(form.sheet, form.line, t)?;
+        optional_label_form(form.sheet, l)
+    })?;
+    take_word(form.sheet, Kind::Flag, 2, q)
 }
 
 // OPEN's LEN: absent, or a range and an expression.
-fn len_ends(sheet: &&[u32], text: &&[u16], base: usize, len: usize, left: usize, at: usize) -> usize
-    ensures { ReachesField sheet.now.now text.now.now base len left (optional₂ range expr) at result }
+#[tactic(auto, unfolding(sheet::specs::Form::fields_form, sheet::specs::Form::field_form, sheet::specs::Form::times_form, sheet::specs::Form::pair_form, sheet::specs::Form::item_form), using(accept_exprs::proofs::Fields::one_is, accept_exprs::proofs::Fields::last_is, walk::proofs::Lines::then_behind, walk::proofs::Lines::alone))]
+fn len_form(form: &LineForm, left: usize, at: usize) -> Walk
+    ensures { result ≡ field_in form.now left (optional₂ range expr) at }
 {
-    if sheet::leaf::is_absent(*sheet, at) {
-        return word_ends(*sheet, 2, 1, at);
+    if is_absent(form.sheet, at) {
+        return absent_form(form.sheet, at);
     }
-    let p = range_ends(*sheet, base, len, at);
-    if p == 0 {
-        return 0;
-    }
-    expr_ends(sheet, text, base, len, left, p)
+    let p = range_form(form.sheet, form.line, at)?;
+    expr_form(form, left, p)
 }
 
 // OPEN: name, mode, file number, LEN.
-fn open_ends(
-    sheet: &&[u32],
-    text: &&[u16],
-    base: usize,
-    len: usize,
-    left: usize,
-    at: usize,
-) -> usize
-    ensures { ReachesFields sheet.now.now text.now.now base len left (shape_fields Open) at result }
+#[tactic(auto, unfolding(sheet::specs::Form::fields_form, sheet::specs::Form::field_form, sheet::specs::Form::times_form, sheet::specs::Form::pair_form, sheet::specs::Form::item_form), using(accept_exprs::proofs::Fields::one_is, accept_exprs::proofs::Fields::last_is, walk::proofs::Lines::then_behind, walk::proofs::Lines::alone))]
+fn open_form(form: &LineForm, left: usize, at: usize) -> Walk
+    ensures { result ≡ fields_in form.now left (shape_fields Open) at }
 {
-    let p = expr_ends(sheet, text, base, len, left, at);
-    if p == 0 {
-        return 0;
-    }
-    let q = word_ends(*sheet, 6, 6, p);
-    if q == 0 {
-        return 0;
-    }
-    let e = expr_ends(sheet, text, base, len, left, q);
-    if e == 0 {
-        return 0;
-    }
-    len_ends(sheet, text, base, len, left, e)
+    let p = expr_form(form, left, at)?;
+    let q = take_word(form.sheet, Kind::Mode, 6, p)?;
+    let e = expr_form(form, left, q)?;
+    len_form(form, left, e)
 }
 
-// WRITE: a file or none, and its values.
-fn write_ends(
-    sheet: &&[u32],
-    text: &&[u16],
-    base: usize,
-    len: usize,
-    left: usize,
-    at: usize,
-) -> usize
-    ensures { ReachesFields sheet.now.now text.now.now base len left (shape_fields Write) at result }
+// PRINT's element: an expression, or the range of a comma or a semicolon.
+#[tactic(auto, unfolding(sheet::specs::Form::fields_form, sheet::specs::Form::field_form, sheet::specs::Form::times_form, sheet::specs::Form::pair_form, sheet::specs::Form::item_form), using(accept_exprs::proofs::Fields::one_is, accept_exprs::proofs::Fields::last_is, walk::proofs::Lines::then_behind, walk::proofs::Lines::alone))]
+fn element_form(form: &LineForm, left: usize, at: usize) -> Walk
+    ensures { result ≡ item_in form.now left element at }
 {
-    let p = optional_expr_ends(sheet, text, base, len, left, at);
-    if p == 0 {
-        return 0;
+    let p = take_word(form.sheet, Kind::Element, 3, at)?;
+    if payload_at(form.sheet, at) == 0 {
+        expr_form(form, left, p)
+    } else {
+        range_form(form.sheet, form.line, p)
     }
-    some_ends(sheet, text, base, len, left, Listed::Value, p)
 }
 
-// The fields of a statement whose shape has the number n, and is not IF.
-pub fn plain_ends(
-    sheet: &&[u32],
-    text: &&[u16],
-    base: usize,
-    len: usize,
-    left: usize,
-    n: u8,
-    at: usize,
-) -> usize
-    ensures { n < 31 → (n ≡ 16 → ⊥) → ReachesFields sheet.now.now text.now.now base len left (shape_fields (shape_by n)) at result }
+// WRITE: a file or none, and its values, each with a flag that says whether a comma stands behind it.
+#[tactic(auto, unfolding(sheet::specs::Form::fields_form, sheet::specs::Form::field_form, sheet::specs::Form::times_form, sheet::specs::Form::pair_form, sheet::specs::Form::item_form), using(accept_exprs::proofs::Fields::one_is, accept_exprs::proofs::Fields::last_is, walk::proofs::Lines::then_behind, walk::proofs::Lines::alone))]
+fn write_form(form: &LineForm, left: usize, at: usize) -> Walk
+    ensures { result ≡ fields_in form.now left (shape_fields Write) at }
 {
-    match n {
-        0 => range_ends(*sheet, base, len, at),
-        1 => at,
-        2 => at,
-        3 => range_ends(*sheet, base, len, at),
-        4 => expr_ends(sheet, text, base, len, left, at),
-        5 => two_ends(sheet, text, base, len, left, at),
-        6 => three_ends(sheet, text, base, len, left, at),
-        7 => exprs_ends(sheet, text, base, len, left, at),
-        8 => set_ends(sheet, text, base, len, left, at),
-        9 => some_ends(sheet, text, base, len, left, Listed::Datum, at),
-        10 => def_ends(sheet, text, base, len, left, at),
-        11 => exprs_ends(sheet, text, base, len, left, at),
-        12 => field_ends(sheet, text, base, len, left, at),
-        13 => for_ends(sheet, text, base, len, left, at),
-        14 => target_ends(*sheet, base, len, at),
-        15 => goto_ends(*sheet, base, len, at),
-        16 => 0,
-        17 => input_ends(sheet, text, base, len, left, at),
-        18 => set_ends(sheet, text, base, len, left, at),
-        19 => exprs_ends(sheet, text, base, len, left, at),
-        20 => locate_ends(sheet, text, base, len, left, at),
-        21 => list_ends(sheet, text, base, len, left, Listed::Name, at),
-        22 => on_ends(sheet, text, base, len, left, at),
-        23 => open_ends(sheet, text, base, len, left, at),
-        24 => list_ends(sheet, text, base, len, left, Listed::Element, at),
-        25 => some_ends(sheet, text, base, len, left, Listed::Place, at),
-        26 => target_ends(*sheet, base, len, at),
-        27 => swap_ends(sheet, text, base, len, left, at),
-        28 => at,
-        29 => expr_ends(sheet, text, base, len, left, at),
-        30 => write_ends(sheet, text, base, len, left, at),
-        _ => 0,
+    let p = optional_expr_form(form, left, at)?;
+    some_form(form, p, |q| {
+        let v = expr_form(form, left, q)?;
+        take_word(form.sheet, Kind::Flag, 2, v)
+    })
+}
+
+// The fields of a statement of a shape; of an IF only the condition.
+#[tactic(auto, unfolding(sheet::specs::Form::label_form, sheet::specs::Form::fields_form, sheet::specs::Form::field_form, sheet::specs::Form::times_form, sheet::specs::Form::pair_form, sheet::specs::Form::item_form), using(accept_exprs::proofs::Fields::one_is, accept_exprs::proofs::Fields::last_is, walk::proofs::Lines::then_behind, walk::proofs::Lines::alone))]
+pub fn plain_form(form: &LineForm, left: usize, s: Shape, at: usize) -> Walk
+    ensures { (s ≡ If → ⊥) → result ≡ fields_in form.now left (shape_fields s) at }
+{
+    match s {
+        Shape::NoOp | Shape::Op0 | Shape::System => Ok(at),
+        Shape::Rem | Shape::Run => range_form(form.sheet, form.line, at),
+        Shape::Op1 | Shape::While | Shape::If => expr_form(form, left, at),
+        Shape::Op2 => two_form(form, left, at),
+        Shape::Op3 => three_form(form, left, at),
+        Shape::Draw | Shape::Dim | Shape::Load => exprs_form(form, left, at),
+        Shape::Set | Shape::Let => set_form(form, left, at),
+        Shape::Data => some_form(form, at, |q| datum_form(form.sheet, form.line, q)),
+        Shape::Def => def_form(form, left, at),
+        Shape::Field => field_form(form, left, at),
+        Shape::For => for_form(form, left, at),
+        Shape::GoSub | Shape::Restore => label_form(form.sheet, form.line, at),
+        Shape::GoTo => goto_form(form, left, at),
+        Shape::Input => input_form(form, left, at),
+        Shape::Locate => locate_form(form, left, at),
+        Shape::Next => list_form(form, at, |q| {
+            optional_name_form(form.sheet, form.text, form.line, q)
+        }),
+        Shape::On => on_form(form, left, at),
+        Shape::Open => open_form(form, left, at),
+        Shape::Print => list_form(form, at, |q| element_form(form, left, q)),
+        Shape::Read => some_form(form, at, |q| place_form(form, left, Sort::Place, q)),
+        Shape::Swap => swap_form(form, left, at),
+        Shape::Write => write_form(form, left, at),
     }
 }

@@ -1,4 +1,4 @@
-// The quick walk's middle: the lists and the fields of statements.
+// The direct walk's middle: the lists and the fields of statements.
 #![tactic(auto)]
 
 pub mod field;

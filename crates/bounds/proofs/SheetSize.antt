@@ -13,9 +13,9 @@ use Rattle.sheet.specs.declared.form.Sort.{Sort}
 use Rattle.sheet.specs.declared.form.Sort.TheVariants.{Expr, Place, InputPlace, Stmt}
 use Rattle.sheet.specs.declared.form.Shape.{Shape}
 use Rattle.sheet.specs.declared.form.Shape.TheVariants.{Rem, NoOp, Op0, Run, Op1, Op2, Op3, Draw, Set, Data, Def, Dim, Field as Fields, For, GoSub, GoTo, If, Input, Let, Load, Locate, Next, On, Open, Print, Read, Restore, Swap, System, While, Write}
-use Rattle.sheet.specs.declared.form.Walk.TheVariants.{Behind}
+use Rattle.std.specs.Prelude.{Ok}
 use Rattle.sheet.specs.declared.form.Line.{Line}
-use Rattle.sheet.specs.declared.form.Checked.TheVariants.{Accepted}
+use Rattle.sheet.specs.Check.{Accepted}
 use Rattle.sheet.specs.Table.{expr_fields, shape_fields}
 use Rattle.sheet.specs.Form
 use Rattle.sheet.specs.Check.{checked}
@@ -219,7 +219,7 @@ module _ (s : List ℕ) where
     unfolding Form.end_form
     end_takes base p = takes_refuse (ltb p (length s)) _ (takes_refuse (ltb base (length t)) _ (takes_at p))
 
-    lines_past : (n base p q : ℕ) → Form.lines_form s t n base p ≡ Behind q → p + Size.lines_words (Tree.items_at s (Tree.line_at s) (Tree.behind_line s) n p) ≤ q
+    lines_past : (n base p q : ℕ) → Form.lines_form s t n base p ≡ Ok q → p + Size.lines_words (Tree.items_at s (Tree.line_at s) (Tree.behind_line s) n p) ≤ q
     unfolding Form.lines_form Tree.items_at Size.lines_words
     lines_past zero base p q e = omega (arith, (end_takes base p).past q e)
     lines_past (suc n) base p q e =
@@ -228,7 +228,7 @@ module _ (s : List ℕ) where
         let u = goes_on (Form.line_form s t base p) (λ r. Form.lines_form s t n (base + payload_at s p) r) x q h.lands e in
         omega (arith, h.past x u.0, lines_past n (base + payload_at s p) x q u.1)
 
-    sheet_past : (q : ℕ) → Form.sheet_form s t ≡ Behind q → Size.program_words (Tree.program_at s) ≤ q
+    sheet_past : (q : ℕ) → Form.sheet_form s t ≡ Ok q → Size.program_words (Tree.program_at s) ≤ q
     unfolding Form.sheet_form Tree.program_at
     sheet_past q e =
         let h = word_takes s 15 16777216 0 (omega arith) in

@@ -18,14 +18,14 @@ use Rattle.sheet.specs.declared.form.Times.TheVariants.{Once, Optional, List as 
 use Rattle.sheet.specs.declared.form.Field.{Field}
 use Rattle.sheet.specs.declared.form.Offence.{Offence}
 use Rattle.sheet.specs.declared.form.Offence.TheVariants.{BadWord, TooDeep}
-use Rattle.sheet.specs.declared.form.Walk.{Walk}
-use Rattle.sheet.specs.declared.form.Walk.TheVariants.{Behind, Stops}
+use Rattle.sheet.specs.Walk.{Walk}
+use Rattle.std.specs.Prelude.{Ok, Err}
 use Rattle.sheet.specs.declared.form.Line.{Line}
-use Rattle.sheet.specs.Table.{expr_range_item, own_range, fields_of, is_fseek}
+use Rattle.sheet.proofs.Numbers.{kind_some}
+use Rattle.sheet.specs.Table.{kind_number, expr_range_item, own_range, fields_of, is_fseek}
 use Rattle.sheet.specs.Form.{then, is_absent, has_unit, is_name_range, take_word, absent_form, non_empty_form, high_form, low_form, number_form, head_form, in_line, range_form, text_form, datum_form, name_form, source_rest, element_rest, item_form, pair_form, repeat_form, list_form, times_form, field_form, fields_form, body_form, node_form, high_fits, low_fits, lacks_unit}
 use Rattle.sheet.specs.Skip.{skip_source, skip_element, skip_item, skip_pair, skip_repeat, skip_list, skip_times, skip_field, skip_fields, skip_node}
 use Rattle.sheet.proofs.Walks.{pick_behind}
-use Rattle.walk.proofs.Steps.{to_next}
 use Rattle.walk.proofs.Cycle.{kind_inside, next_inside, head_moves}
 use Rattle.walk.proofs.Accepted.{Lands, lands_at, lands_never, lands_then, word_lands, head_lands}
 use Rattle.rules.proofs.SheetWalk.{goes_on}
@@ -59,8 +59,7 @@ module _ (s : List ℕ) where
 
     abbrev pub item_count : Item → ℕ → ℕ
     item_count Nothing p = 0
-    item_count (Word zero n) p = 0
-    item_count (Word (suc k) n) p = 1
+    item_count (Word k n) p = 1
     item_count range p = 1
     item_count name p = 1
     item_count optionalName p = 1
@@ -91,12 +90,12 @@ module _ (s : List ℕ) where
 -- where the walk from p is accepted, it ends at x, and has moved on by at least n
 pub record Takes (n p x : ℕ) (w : Walk) : Type 0 where
   pub lands : Lands w x
-  pub past : (q : ℕ) → w ≡ Behind q → p + n ≤ q
+  pub past : (q : ℕ) → w ≡ Ok q → p + n ≤ q
 
-pub takes_at : (x : ℕ) → Takes 0 x x (Behind x)
+pub takes_at : (x : ℕ) → Takes 0 x x (Ok x)
 takes_at x = record { lands = lands_at x; past = λ q e. let z : x ≡ q = cc in omega arith }
 
-takes_never : (n p x : ℕ) (o : Offence) → Takes n p x (Stops o)
+takes_never : (n p x : ℕ) (o : Offence) → Takes n p x (Err o)
 takes_never n p x o = record { lands = lands_never o x; past = λ q e. let z : ◌≡◌ {A = ℕ} 0 1 = cc in absurd (omega arith) }
 
 pub takes_then : {a b p x y : ℕ} {w : Walk} (f : ℕ → Walk) → Takes a p x w → Takes b x y (f x) → Takes (a + b) p y (then w f)
@@ -109,18 +108,18 @@ pub takes_less : {m n p x : ℕ} {w : Walk} → Takes n p x w → m ≤ n → Ta
 takes_less h k = record { lands = h.lands; past = λ q e. omega (arith, h.past q e) }
 
 -- a test before what is read
-pub takes_test : {n p x : ℕ} {w : Walk} (b : Bool) (o : Offence) → Takes n p x w → Takes n p x (pick b w (Stops o))
+pub takes_test : {n p x : ℕ} {w : Walk} (b : Bool) (o : Offence) → Takes n p x w → Takes n p x (pick b w (Err o))
 takes_test true o h = h
 takes_test false o h = takes_never _ _ _ o
 
-pub takes_refuse : {n p x : ℕ} {w : Walk} (b : Bool) (o : Offence) → Takes n p x w → Takes n p x (pick b (Stops o) w)
+pub takes_refuse : {n p x : ℕ} {w : Walk} (b : Bool) (o : Offence) → Takes n p x w → Takes n p x (pick b (Err o) w)
 takes_refuse true o h = takes_never _ _ _ o
 takes_refuse false o h = h
 
 -- a walk that begins again from the start of another
 takes_again : {n p x : ℕ} {v : Walk} (w : Walk) → Takes n p x v → Takes n p x (then w (λ q. v))
-takes_again (Behind q) h = h
-takes_again (Stops o) h = takes_never _ _ _ o
+takes_again (Ok q) h = h
+takes_again (Err o) h = takes_never _ _ _ o
 
 takes_either : {n p x : ℕ} (b : Bool) (f g : ℕ → Walk) → Takes n p x (f p) → Takes n p x (g p) → Takes n p x (choose b f g p)
 takes_either true f g h k = h
@@ -204,8 +203,7 @@ module _ (s : List ℕ) where
       item_takes : (i : Item) (p : ℕ) → Takes (item_count s words i p) p (skip_item s skip i p) (item_form s t line child i p)
       unfolding skip_item item_form
       item_takes Nothing p = takes_at p
-      item_takes (Word zero n) p = record { lands = word_lands s 0 n p; past = λ q e. omega (arith, (word_lands s 0 n p).ends q e, (to_next s p).later) }
-      item_takes (Word (suc k) n) p = word_takes (suc k) n p (omega arith)
+      item_takes (Word k n) p = word_takes (kind_number k) n p (kind_some k)
       item_takes range p = range_takes line p
       item_takes name p = name_takes p
       item_takes optionalName p = takes_either (is_absent s p) (absent_form s) (name_form s t line) (word_takes 2 1 p (omega arith)) (name_takes p)

@@ -7,10 +7,11 @@ use borrow.Author.Tests.{le-ltb}
 use lib.ListN.{length}
 use Rattle.recorder.specs.Ideal.{Ideal, how_many}
 use Rattle.recorder.specs.Layout.{note_size, entry_size, most_records}
-use Rattle.sheet.specs.declared.form.Checked.{Checked}
-use Rattle.sheet.specs.declared.form.Checked.TheVariants.{Accepted, TooLong, Surrogate, WorkTooShort, Offends}
-use Rattle.sheet.specs.declared.form.Offence.TheVariants.{BadWord, TooDeep, BadLength, BadRange, Fseek}
-use Rattle.sheet.specs.Check.{checked}
+use Rattle.sheet.specs.Check.{Checked}
+use Rattle.sheet.specs.Check.{Accepted}
+use Rattle.std.specs.Prelude.{Ok, Err}
+use Rattle.sheet.specs.Check.{checked, answer_number}
+use Rattle.sheet.proofs.Numbers.{checked_low}
 use Rattle.sheet.specs.Tree.{program_at}
 use Rattle.walk.proofs.Within.{walked}
 use Rattle.rules.specs.Outcome.{Lengths, lengths, accepted, compiled, finished, sized, outcome_by, outcome}
@@ -51,15 +52,8 @@ module _ (s t : List ℕ) where
   never_short L a = go (checked s t L.work) refl
     where
       go : (c : Checked) → checked s t L.work ≡ c → (outcome_by c s t L).answer.refusal ≤ 8
-      go Accepted e = rw (sized_whole L e a) (omega arith)
-      go TooLong e = omega arith
-      go Surrogate e = omega arith
-      go WorkTooShort e = omega arith
-      go (Offends (BadWord p)) e = omega arith
-      go (Offends (TooDeep p)) e = omega arith
-      go (Offends (BadLength p)) e = omega arith
-      go (Offends (BadRange p)) e = omega arith
-      go (Offends (Fseek p)) e = omega arith
+      go (Ok u) e = rw (sized_whole L e a) (omega arith)
+      go (Err r) e = let h : answer_number (Err r) ≤ 8 = rw e at (checked_low s t L.work) in h
 
 -- a number within its kind is never cut: a head's 24 bits hold it
 pub uncut : (s t : List ℕ) (work k : ℕ) → checked s t work ≡ Accepted → how_many k (finished s t).entries ≤ 65536

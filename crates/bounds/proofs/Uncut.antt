@@ -11,8 +11,8 @@ use Rattle.recorder.specs.Word.{both, kind_at, payload_at, next, range_at}
 use Rattle.recorder.specs.Recorder.{Recorder}
 use Rattle.recorder.proofs.Bools.{both_left, both_right}
 use Rattle.sheet.specs.declared.form.Offence.TheVariants.{BadWord}
-use Rattle.sheet.specs.declared.form.Walk.TheVariants.{Behind}
-use Rattle.sheet.specs.declared.form.Checked.TheVariants.{Accepted}
+use Rattle.std.specs.Prelude.{Ok}
+use Rattle.sheet.specs.Check.{Accepted}
 use Rattle.sheet.specs.Form
 use Rattle.sheet.specs.Check.{checked}
 use Rattle.sheet.specs.Tree.{ProgramLine, items_at, line_at, behind_line, program_at}
@@ -26,7 +26,7 @@ use Rattle.bounds.specs.Uncut.{line_starts, bases_taken, UncutLine, UncutLines, 
 use Rattle.bounds.proofs.SheetSize.{line_takes}
 
 module _ (s : List ℕ) where
-  word_taken : (k n p q : ℕ) → Form.take_word s k n p ≡ Behind q → (kind_at s p ≡ k) × (payload_at s p < n)
+  word_taken : (k n p q : ℕ) → Form.take_word s k n p ≡ Ok q → (kind_at s p ≡ k) × (payload_at s p < n)
   unfolding Form.take_word
   word_taken k n p q e =
       let a = eqb (kind_at s p) k in
@@ -35,16 +35,16 @@ module _ (s : List ℕ) where
       (eqb-true _ _ (both_left a b h), ltb-true _ _ (both_right a b h))
 
   -- the halves of a literal's m
-  high_taken : (e p q : ℕ) → Form.high_form s e p ≡ Behind q → (kind_at s p ≡ 11) × (payload_at s p < 65536)
+  high_taken : (e p q : ℕ) → Form.high_form s e p ≡ Ok q → (kind_at s p ≡ 11) × (payload_at s p < 65536)
   unfolding Form.high_form
   high_taken e p q h = let u = then_first _ (Form.take_word s 11 65536 p) _ q refl h in word_taken 11 65536 p u.0 u.1
 
-  low_taken : (e p q : ℕ) → Form.low_form s e p ≡ Behind q → (kind_at s p ≡ 11) × (payload_at s p < 65536)
+  low_taken : (e p q : ℕ) → Form.low_form s e p ≡ Ok q → (kind_at s p ≡ 11) × (payload_at s p < 65536)
   unfolding Form.low_form
   low_taken e p q h = let u = then_first _ (Form.take_word s 11 65536 p) _ q refl h in word_taken 11 65536 p u.0 u.1
 
   -- THEOREM: of a literal that the form takes, neither half of m is cut
-  pub literal_uncut : (at q : ℕ) → Form.number_form s at ≡ Behind q → UncutLiteral s at
+  pub literal_uncut : (at q : ℕ) → Form.number_form s at ≡ Ok q → UncutLiteral s at
   unfolding Form.number_form
   literal_uncut at q e =
       let k = payload_at s at in
@@ -71,19 +71,19 @@ text_short s t work e = go (ltb 65536 (length t)) refl
     go false h = ltb-false 65536 (length t) h
 
 module _ (s t : List ℕ) (short : length t ≤ 65536) where
-  line_short : (base p q : ℕ) → Form.line_form s t base p ≡ Behind q → payload_at s p < 4096
+  line_short : (base p q : ℕ) → Form.line_form s t base p ≡ Ok q → payload_at s p < 4096
   unfolding Form.line_form Form.line_head
   line_short base p q e =
       let u = then_first _ (Form.line_head s t base p) _ q refl e in
       let v = then_first _ (Form.take_word s 16 4096 p) _ u.0 refl u.1 in
       (word_taken s 16 4096 p v.0 v.1).1
 
-  line_uncut : (base p q : ℕ) → Form.line_form s t base p ≡ Behind q → UncutLine t base (payload_at s p)
+  line_uncut : (base p q : ℕ) → Form.line_form s t base p ≡ Ok q → UncutLine t base (payload_at s p)
   line_uncut base p q e =
       let h : base + payload_at s p ≤ length t = line_fits s t base p q (Form.line_form s t base p) refl e in
       record { short = line_short base p q e; within = h; exact = λ n k. omega arith }
 
-  lines_uncut : (n base p q : ℕ) → Form.lines_form s t n base p ≡ Behind q → UncutLines t base (items_at s (line_at s) (behind_line s) n p)
+  lines_uncut : (n base p q : ℕ) → Form.lines_form s t n base p ≡ Ok q → UncutLines t base (items_at s (line_at s) (behind_line s) n p)
   unfolding Form.lines_form items_at
   lines_uncut zero base p q e = tt
   lines_uncut (suc n) base p q e =
@@ -92,7 +92,7 @@ module _ (s t : List ℕ) (short : length t ≤ 65536) where
       let u = goes_on (Form.line_form s t base p) (λ r. Form.lines_form s t n b r) x q (line_takes s t base p).lands e in
       (line_uncut base p x u.0, lines_uncut n b x q u.1)
 
-  sheet_uncut : (q : ℕ) → Form.sheet_form s t ≡ Behind q → UncutLines t 0 (program_at s)
+  sheet_uncut : (q : ℕ) → Form.sheet_form s t ≡ Ok q → UncutLines t 0 (program_at s)
   unfolding Form.sheet_form program_at
   sheet_uncut q e =
       let n = payload_at s 0 in

@@ -17,10 +17,10 @@ use Rattle.sheet.specs.declared.form.Field.{Field}
 use Rattle.sheet.specs.declared.form.Shape.{Shape}
 use Rattle.sheet.specs.declared.form.Shape.TheVariants.{Rem, NoOp, Op0, Run, Op1, Op2, Op3, Draw, Set, Data, Def, Dim, Field as Fields, For, GoSub, GoTo, If, Input, Let, Load, Locate, Next, On, Open, Print, Read, Restore, Swap, System, While, Write}
 use Rattle.sheet.specs.declared.form.Offence.TheVariants.{BadLength}
-use Rattle.sheet.specs.declared.form.Walk.{Walk}
-use Rattle.sheet.specs.declared.form.Walk.TheVariants.{Behind}
+use Rattle.sheet.specs.Walk.{Walk}
+use Rattle.std.specs.Prelude.{Ok}
 use Rattle.sheet.specs.declared.form.Line.{Line}
-use Rattle.sheet.specs.declared.form.Checked.TheVariants.{Accepted}
+use Rattle.sheet.specs.Check.{Accepted}
 use Rattle.sheet.specs.Table.{expr_fields, shape_fields, fields_of}
 use Rattle.sheet.specs.Form
 use Rattle.sheet.specs.Check.{checked}
@@ -86,26 +86,26 @@ module _ (s : List ℕ) where
       OfFields [] p = Unit {0}
       OfFields (f ∷ fs) p = OfField f p × OfFields fs (skip_field s skip f p)
 
-  choose_known : (b : Bool) (f g : ℕ → Walk) (F : ℕ → Type 0) (p q : ℕ) → choose b f g p ≡ Behind q → (g p ≡ Behind q → F p) → choose b (λ r. Unit {0}) F p
+  choose_known : (b : Bool) (f g : ℕ → Walk) (F : ℕ → Type 0) (p q : ℕ) → choose b f g p ≡ Ok q → (g p ≡ Ok q → F p) → choose b (λ r. Unit {0}) F p
   choose_known true f g F p q e h = tt
   choose_known false f g F p q e h = h e
 
   -- what the form lets pass is known
   module _ (t : List ℕ) (line : Line) where
-    module _ (f : ℕ → Walk) (d : ℕ → ℕ) (F : ℕ → Type 0) (lands : (p : ℕ) → Lands (f p) (d p)) (known : (p q : ℕ) → f p ≡ Behind q → F p) where
-      each_known : (n p q : ℕ) → Form.repeat_form s t line f n p ≡ Behind q → Each F d n p
+    module _ (f : ℕ → Walk) (d : ℕ → ℕ) (F : ℕ → Type 0) (lands : (p : ℕ) → Lands (f p) (d p)) (known : (p q : ℕ) → f p ≡ Ok q → F p) where
+      each_known : (n p q : ℕ) → Form.repeat_form s t line f n p ≡ Ok q → Each F d n p
       unfolding Form.repeat_form Each
       each_known zero p q e = tt
       each_known (suc n) p q e =
           let u = goes_on (f p) (λ r. Form.repeat_form s t line f n r) (d p) q (lands p) e in
           (known p (d p) u.0, each_known n (d p) q u.1)
 
-      list_known : (p q : ℕ) → Form.list_form s t line f p ≡ Behind q → Each F d (payload_at s p) (next s p)
+      list_known : (p q : ℕ) → Form.list_form s t line f p ≡ Ok q → Each F d (payload_at s p) (next s p)
       unfolding Form.list_form
       list_known p q e =
           each_known (payload_at s p) (next s p) q (goes_on (Form.count_form s p) (λ r. Form.repeat_form s t line f (payload_at s p) r) (next s p) q (word_lands s 4 16777216 p) e).1
 
-      times_known : (m : Times) (p q : ℕ) → Form.times_form s t line m f p ≡ Behind q → OfTimes m F d p
+      times_known : (m : Times) (p q : ℕ) → Form.times_form s t line m f p ≡ Ok q → OfTimes m F d p
       unfolding Form.times_form
       times_known Once p q e = known p q e
       times_known Optional p q e = choose_known (Form.is_absent s p) (Form.absent_form s) f F p q e (λ h. known p q h)
@@ -114,17 +114,17 @@ module _ (s : List ℕ) where
       times_known OptionalList p q e =
           choose_known (Form.is_absent s p) (Form.absent_form s) (Form.list_form s t line f) (λ r. Each F d (payload_at s r) (next s r)) p q e (λ h. list_known p q h)
 
-    module _ (child : Sort → ℕ → Walk) (skip : Sort → ℕ → ℕ) (lands : (c : Sort) (p : ℕ) → Lands (child c p) (skip c p)) (X : Sort → ℕ → Type 0) (known : (c : Sort) (p q : ℕ) → child c p ≡ Behind q → X c p) where
-      source_known : (n p q : ℕ) → Form.source_rest s t line child n p ≡ Behind q → OfSource X n p
+    module _ (child : Sort → ℕ → Walk) (skip : Sort → ℕ → ℕ) (lands : (c : Sort) (p : ℕ) → Lands (child c p) (skip c p)) (X : Sort → ℕ → Type 0) (known : (c : Sort) (p q : ℕ) → child c p ≡ Ok q → X c p) where
+      source_known : (n p q : ℕ) → Form.source_rest s t line child n p ≡ Ok q → OfSource X n p
       source_known zero p q e = tt
       source_known (suc zero) p q e = tt
       source_known (suc (suc n)) p q e = known Expr p q e
 
-      element_known : (n p q : ℕ) → Form.element_rest s t line child n p ≡ Behind q → OfElement X n p
+      element_known : (n p q : ℕ) → Form.element_rest s t line child n p ≡ Ok q → OfElement X n p
       element_known zero p q e = known Expr p q e
       element_known (suc n) p q e = tt
 
-      item_known : (i : Item) (p q : ℕ) → Form.item_form s t line child i p ≡ Behind q → OfItem X i p
+      item_known : (i : Item) (p q : ℕ) → Form.item_form s t line child i p ≡ Ok q → OfItem X i p
       unfolding Form.item_form
       item_known Nothing p q e = tt
       item_known (Word k n) p q e = tt
@@ -147,14 +147,14 @@ module _ (s : List ℕ) where
       unfolding Form.pair_form skip_pair
       pair_lands a b p = lands_then _ _ (skip_item s skip a p) _ (item_lands s t line child skip lands a p) (item_lands s t line child skip lands b (skip_item s skip a p))
 
-      pair_known : (a b : Item) (p q : ℕ) → Form.pair_form s t line child a b p ≡ Behind q → OfPair X skip a b p
+      pair_known : (a b : Item) (p q : ℕ) → Form.pair_form s t line child a b p ≡ Ok q → OfPair X skip a b p
       unfolding Form.pair_form
       pair_known a b p q e =
           let m = skip_item s skip a p in
           let u = goes_on (Form.item_form s t line child a p) (λ r. Form.item_form s t line child b r) m q (item_lands s t line child skip lands a p) e in
           (item_known a p m u.0, item_known b m q u.1)
 
-      fields_known : (fs : List Field) (p q : ℕ) → Form.fields_form s t line child fs p ≡ Behind q → OfFields X skip fs p
+      fields_known : (fs : List Field) (p q : ℕ) → Form.fields_form s t line child fs p ≡ Ok q → OfFields X skip fs p
       unfolding Form.fields_form Form.field_form
       fields_known [] p q e = tt
       fields_known (f ∷ fs) p q e =
@@ -302,12 +302,12 @@ module _ (s : List ℕ) where
         )
 
   module _ (t : List ℕ) where
-    node_known : (line : Line) (left : ℕ) → ((c : Sort) (p q : ℕ) → Form.node_form s t line left c p ≡ Behind q → Lits left c p)
-        → (c : Sort) (p q : ℕ) → Form.node_form s t line (suc left) c p ≡ Behind q → Known left (fields_of c (payload_at s p)) (next s (next s p))
+    node_known : (line : Line) (left : ℕ) → ((c : Sort) (p q : ℕ) → Form.node_form s t line left c p ≡ Ok q → Lits left c p)
+        → (c : Sort) (p q : ℕ) → Form.node_form s t line (suc left) c p ≡ Ok q → Known left (fields_of c (payload_at s p)) (next s (next s p))
     node_known line left below c p q e =
         fields_known t line (Form.node_form s t line left) (skip_node s left) (node_lands s t line left) (Lits left) below (fields_of c (payload_at s p)) (next s (next s p)) q (inside s t line left c p q e).fields
 
-    node_read : (line : Line) (left : ℕ) (c : Sort) (p q : ℕ) → Form.node_form s t line left c p ≡ Behind q → Lits left c p
+    node_read : (line : Line) (left : ℕ) (c : Sort) (p q : ℕ) → Form.node_form s t line left c p ≡ Ok q → Lits left c p
     unfolding Tree.expr_at Tree.stmt_at
     node_read line zero Expr p q e = tt
     node_read line zero Place p q e = tt
@@ -325,7 +325,7 @@ module _ (s : List ℕ) where
     head_lands base p =
         lands_then _ _ (next s p) _ (word_lands s 16 4096 p) (lands_pick (leb (base + payload_at s p) (length t)) _ _ _ (lands_at (next s p)) (lands_never (BadLength p) (next s p)))
 
-    line_read : (base p q : ℕ) → Form.line_form s t base p ≡ Behind q → LiteralsStmts (Stands s) (Tree.line_at s p).stmts
+    line_read : (base p q : ℕ) → Form.line_form s t base p ≡ Ok q → LiteralsStmts (Stands s) (Tree.line_at s p).stmts
     unfolding Form.line_form
     line_read base p q e =
         let line = Form.line_of s t base p in
@@ -336,7 +336,7 @@ module _ (s : List ℕ) where
         let v = goes_on (Form.label_form s line (next s p)) (λ x. Form.list_form s t line f x) m q (label_takes s t line (next s p)).lands u.1 in
         stmts_read (Lits 64 Stmt) (Tree.stmt_at s 64) d (λ r h. h) (payload_at s m) (next s m) (list_known t line f d (Lits 64 Stmt) (node_lands s t line 64 Stmt) (node_read line 64 Stmt) m q v.1)
 
-    lines_read : (n base p q : ℕ) → Form.lines_form s t n base p ≡ Behind q → Literals (Stands s) (Tree.items_at s (Tree.line_at s) (Tree.behind_line s) n p)
+    lines_read : (n base p q : ℕ) → Form.lines_form s t n base p ≡ Ok q → Literals (Stands s) (Tree.items_at s (Tree.line_at s) (Tree.behind_line s) n p)
     unfolding Form.lines_form Tree.items_at
     lines_read zero base p q e = tt
     lines_read (suc n) base p q e =
@@ -345,7 +345,7 @@ module _ (s : List ℕ) where
         let u = goes_on (Form.line_form s t base p) (λ r. Form.lines_form s t n b r) x q (line_takes s t base p).lands e in
         (line_read base p x u.0, lines_read n b x q u.1)
 
-    sheet_read : (q : ℕ) → Form.sheet_form s t ≡ Behind q → Literals (Stands s) (Tree.program_at s)
+    sheet_read : (q : ℕ) → Form.sheet_form s t ≡ Ok q → Literals (Stands s) (Tree.program_at s)
     unfolding Form.sheet_form Tree.program_at
     sheet_read q e =
         let n = payload_at s 0 in

@@ -2,29 +2,22 @@
 use mathlib.Core.Path.{◌≡◌, refl, sym, ap, ◌∙◌}
 use mathlib.Core.List.{List}
 use mathlib.Core.Bool.{Bool, true, false}
-use Prim.Native.Nat.{ℕ, zero, suc, ◌+◌, ◌*◌, ◌-◌, ◌≤◌, ◌<◌, ◌/◌, ◌%◌, ◌^◌}
+use Prim.Native.Nat.{ℕ, suc, ◌+◌, ◌*◌, ◌-◌, ◌≤◌, ◌<◌, ◌/◌, ◌%◌, ◌^◌}
 use lib.Dec.{ltb, eqb}
 use lib.ListN.{length, get_or, set}
-use borrow.Author.Tests.{lt-ltb, le-ltb, eq-eqb, ne_eqb, eqb-true, eqb-false}
-use borrow.Rule.Slice.PartMut.{mid_of, put_mid}
-use native.Mathlib.Numerals.{sub-one}
+use borrow.Author.Tests.{lt-ltb, le-ltb, eq-eqb, ne_eqb}
 use native.Mathlib.Nat.{pow-le-pow_right, one-le-pow, pow-suc, div-mul-le_self}
 use native.Mathlib.Omega.{arith}
 use Rattle.recorder.specs.Word.{pick, both, either, kind_at, word_of}
 use Rattle.recorder.specs.Ideal.{Rec}
-use Rattle.recorder.specs.Closing.{is_while, is_wend, is_one, is_end, is_next_of, up_to, round_up}
-use Rattle.recorder.specs.Mem.{note_list, note_st, rec_of, set_b, at_rec, while_list, while_top, Passed, passed, open_from, unit_of, rewrite, whole_at, known, sigil_of, unlink_at, unlink_from, unlinked}
-use Rattle.recorder.proofs.Laws.{part_back}
+use Rattle.recorder.specs.Closing.{is_while, is_wend, is_end, up_to, round_up}
+use Rattle.recorder.specs.Mem.{note_list, note_st, rec_of, set_b, at_rec, while_list, while_top, Passed, passed, open_from, unit_of, known, sigil_of, unlink_at, unlink_from, unlinked}
 use Rattle.recorder.proofs.Bools.{never, both_false}
 
 -- tests in a row
 pub both_no : (a b f : Bool) → f ≡ a → f ≡ false → false ≡ both a b
 both_no true b f e g = never (sym e ∙ g)
 both_no false b f e g = refl
-
-pub both_yes : (a b f x : Bool) → f ≡ a → f ≡ true → x ≡ b → x ≡ both a b
-both_yes true b f x e g h = h
-both_yes false b f x e g h = never (sym g ∙ e)
 
 pub either_yes : (a b f : Bool) → f ≡ a → f ≡ true → true ≡ either a b
 either_yes true b f e g = refl
@@ -42,19 +35,9 @@ pub pick_no : {A : Type 0} (c f : Bool) (a b x : A) → f ≡ c → f ≡ false 
 pick_no true f a b x e g h = never (sym e ∙ g)
 pick_no false f a b x e g h = h
 
--- a record written where the list has it
-pub at_back : (f : List ℕ → List ℕ) (l p : List ℕ) (k : ℕ) → k < length l / 5 → p ≡ f (mid_of (5 * k) (length l - 5 * k) l) → put_mid (5 * k) (length l - 5 * k) l p ≡ at_rec f l k
-unfolding at_rec
-at_back f l p k i e = rw (lt-ltb k (length l / 5) i) (part_back f l p (5 * k) e)
-
 pub at_beyond : (f : List ℕ → List ℕ) (l : List ℕ) (k : ℕ) → length l / 5 ≤ k → l ≡ at_rec f l k
 unfolding at_rec
 at_beyond f l k i = rw (le-ltb k (length l / 5) i)
-
--- the pass over the WHILEs: a WHILE, another record, a WEND with none open, a WEND
-pub while_open : (l l' : List ℕ) (top k c : ℕ) → c ≡ (rec_of l k).call → c ≡ 25 → l' ≡ at_rec (set_b top) l k → (l' ≡ while_list l top k) × (k + 1 ≡ while_top l top k)
-unfolding while_list while_top
-while_open l l' top k c e f g = let w : is_while (rec_of l k) ≡ true = eq-eqb (rec_of l k).call 25 (sym e ∙ f) in (g ∙ rw w, rw w)
 
 pub while_other : (l : List ℕ) (top k c : ℕ) (f : Bool) → c ≡ (rec_of l k).call → (c ≡ 25 → ⊥) → f ≡ is_wend (rec_of l k) → f ≡ false → (l ≡ while_list l top k) × (top ≡ while_top l top k)
 unfolding while_list while_top
@@ -63,67 +46,45 @@ while_other l top k c f e g h i =
     let v : is_wend (rec_of l k) ≡ false = sym h ∙ i in
     (rw (w, v), rw (w, v))
 
-pub while_none : (l : List ℕ) (top k c : ℕ) (f : Bool) → c ≡ (rec_of l k).call → (c ≡ 25 → ⊥) → f ≡ is_wend (rec_of l k) → f ≡ true → top ≡ 0 → (l ≡ while_list l top k) × (top ≡ while_top l top k)
-unfolding while_list while_top
-while_none l top k c f e g h i j =
-    let w : is_while (rec_of l k) ≡ false = ne_eqb (rec_of l k).call 25 (λ z. g (e ∙ z)) in
-    let v : is_wend (rec_of l k) ≡ true = sym h ∙ i in
-    let u : ltb 0 top ≡ false = le-ltb 0 top (omega arith) in
-    (rw (w, v, u), rw (w, v, u))
-
-pub while_close : (l l' : List ℕ) (top k c b : ℕ) (f : Bool) → c ≡ (rec_of l k).call → (c ≡ 25 → ⊥) → f ≡ is_wend (rec_of l k) → f ≡ true → (top ≡ 0 → ⊥)
-    → b ≡ (rec_of l (top - 1)).b → l' ≡ at_rec (set_b (k + 1)) l (top - 1) → (l' ≡ while_list l top k) × (b ≡ while_top l top k)
-unfolding while_list while_top
-while_close l l' top k c b f e g h i j o p =
-    let w : is_while (rec_of l k) ≡ false = ne_eqb (rec_of l k).call 25 (λ z. g (e ∙ z)) in
-    let v : is_wend (rec_of l k) ≡ true = sym h ∙ i in
-    let u : ltb 0 top ≡ true = lt-ltb 0 top (omega arith) in
-    (p ∙ rw (w, v, u), o ∙ rw (w, v, u))
-
 -- the WHILEs that are open
-pub open_step_lem : (l l' n n' : List ℕ) (s s' : List ℕ) (t t' left : ℕ) (P : Passed) → 0 < left → open_from (passed l n s) t left ≡ P → (t ≡ 0 → ⊥) → t' ≡ (rec_of l (t - 1)).b
+pub open_step_lem : (l l' n n' : List ℕ) (s s' : List ℕ) (t t' k end : ℕ) (P : Passed) → k < end → open_from (passed l n s) t (end - k) ≡ P → (t ≡ 0 → ⊥) → t' ≡ (rec_of l (t - 1)).b
     → (n' ≡ note_list n s (word_of 13 (get_or l (5 * (t - 1)) 0)) (get_or l (5 * (t - 1) + 1) 0) 1) × (s' ≡ note_st n s) → l' ≡ at_rec (set_b 4294967295) l (t - 1)
-    → open_from (passed l' n' s') t' (left - 1) ≡ P
+    → open_from (passed l' n' s') t' (end - (k + 1)) ≡ P
 unfolding open_from
-open_step_lem l l' n n' s s' t t' zero P h e z b g m = absurd (omega arith)
-open_step_lem l l' n n' s s' t t' (suc left) P h e z b g m = rw (sub-one, g.0, g.1, m, b) (rw (ne_eqb t 0 z) at e)
+open_step_lem l l' n n' s s' t t' k end P h e z b g m =
+    let q : end - k ≡ suc (end - (k + 1)) = omega arith in
+    rw (g.0, g.1, m, b) (rw (ne_eqb t 0 z) at (rw q at e))
 
-pub open_stop : (l n : List ℕ) (s : List ℕ) (t left : ℕ) (P : Passed) → 0 < left → open_from (passed l n s) t left ≡ P → t ≡ 0 → passed l n s ≡ P
+pub open_stop : (l n : List ℕ) (s : List ℕ) (t k end : ℕ) (P : Passed) → k < end → open_from (passed l n s) t (end - k) ≡ P → t ≡ 0 → passed l n s ≡ P
 unfolding open_from
-open_stop l n s t zero P h e z = absurd (omega arith)
-open_stop l n s t (suc left) P h e z = rw (eq-eqb t 0 z) at e
+open_stop l n s t k end P h e z =
+    let q : end - k ≡ suc (end - (k + 1)) = omega arith in
+    rw (eq-eqb t 0 z) at (rw q at e)
 
-pub open_end : (l n : List ℕ) (s : List ℕ) (t left : ℕ) (P : Passed) → left ≤ 0 → open_from (passed l n s) t left ≡ P → passed l n s ≡ P
+pub open_end : (l n : List ℕ) (s : List ℕ) (t k end : ℕ) (P : Passed) → end ≤ k → open_from (passed l n s) t (end - k) ≡ P → passed l n s ≡ P
 unfolding open_from
-open_end l n s t zero P h e = e
-open_end l n s t (suc left) P h e = absurd (omega arith)
+open_end l n s t k end P h e = let q : end - k ≡ 0 = omega arith in rw q at e
 
 -- powers of two
 pub pow_small : (k : ℕ) → k ≤ 31 → (0 < 2 ^ k) × (2 ^ k ≤ 2147483648)
 pow_small k h = (one-le-pow k 2 (omega arith), pow-le-pow_right {n = 2} (omega arith) h)
 
-pub unit_step : (u i e : ℕ) → (u ≡ 2 ^ (i - e)) × (e ≤ i) × (i ≤ 160) → i < 160 → (u * 2 ≡ 2 ^ (i + 1 - e)) × (e ≤ i + 1) × (i + 1 ≤ 160)
-unit_step u i e v h =
-    let z : i + 1 - e ≡ suc (i - e) = omega arith in
-    (rw (z, pow-suc 2 (i - e), v.0), omega arith, omega arith)
+pub unit_step : (u i e : ℕ) → u ≡ 2 ^ (i - e) → e ≤ i → u * 2 ≡ 2 ^ (i + 1 - e)
+unit_step u i e v h = let z : i + 1 - e ≡ suc (i - e) = omega arith in rw (z, pow-suc 2 (i - e), v)
 
-pub unit_fits : (u i e : ℕ) → (u ≡ 2 ^ (i - e)) × (e ≤ i) × (i ≤ 160) → 129 ≤ e → u ≤ 2147483648
-unit_fits u i e v h = rw v.0 (pow_small (i - e) (omega arith)).1
+pub unit_fits : (u i e : ℕ) → u ≡ 2 ^ (i - e) → i < 160 → 129 ≤ e → u ≤ 2147483648
+unit_fits u i e v g h = rw v (pow_small (i - e) (omega arith)).1
 
-pub unit_end : (u i e : ℕ) → (u ≡ 2 ^ (i - e)) × (e ≤ i) × (i ≤ 160) → 129 ≤ e → 160 ≤ i → (u ≡ unit_of e) × (0 < u) × (u ≤ 2147483648)
+pub unit_end : (u i e : ℕ) → u ≡ 2 ^ (i - e) → i - e ≤ 160 - e → 129 ≤ e → 160 ≤ i → (u ≡ unit_of e) × (0 < u) × (u ≤ 2147483648)
 unfolding unit_of
-unit_end u i e v h g =
-    let z : i ≡ 160 = omega arith in
-    let w : u ≡ 2 ^ (160 - e) = rw z at v.0 in
+unit_end u i e v g h j =
+    let z : i - e ≡ 160 - e = omega arith in
+    let w : u ≡ 2 ^ (160 - e) = rw z at v in
     (rw (le-ltb e 129 h) w, rw w (pow_small (160 - e) (omega arith)).0, rw w (pow_small (160 - e) (omega arith)).1)
 
 pub unit_low : (e : ℕ) → e < 129 → (1 ≡ unit_of e) × (0 < 1) × (1 ≤ 2147483648)
 unfolding unit_of
 unit_low e h = (rw (lt-ltb e 129 h), omega arith, omega arith)
-
-pub unit_high : (e : ℕ) → 129 ≤ e → 160 ≤ e → (1 ≡ unit_of e) × (0 < 1) × (1 ≤ 2147483648)
-unfolding unit_of
-unit_high e h g = let z : 160 - e ≡ 0 = omega arith in (rw (le-ltb e 129 h, z), omega arith, omega arith)
 
 -- rounding up
 pub up_bound : (m u : ℕ) → 0 < u → u ≤ 2147483648 → m < 4294967296 → (m + u - 1) / u * u ≤ 6442450943
@@ -155,48 +116,9 @@ round_next e m u h i g l =
     let t : ltb (up_to m (2 ^ (160 - e))) 4294967296 ≡ false = le-ltb (up_to m (2 ^ (160 - e))) 4294967296 (rw z at l) in
     (rw (le-ltb e 129 h, lt-ltb e 160 i, t), rw (le-ltb e 129 h, lt-ltb e 160 i, t, z))
 
--- a delay's end
-pub whole_number : (l l' : List ℕ) (k c a b e m : ℕ) → c ≡ (rec_of l k).call → c ≡ 3 → a ≡ (rec_of l k).a → b ≡ (rec_of l k).b → (e ≡ (round_up a b).e) × (m ≡ (round_up a b).m)
-    → l' ≡ at_rec (rewrite 3 e m 0) l k → l' ≡ whole_at l k
-unfolding whole_at
-whole_number l l' k c a b e m h i j o p q = rw (eq-eqb (rec_of l k).call 3 (sym h ∙ i)) (q ∙ rw (p.0, p.1, j, o))
-
-pub whole_other : (l : List ℕ) (k c : ℕ) → c ≡ (rec_of l k).call → (c ≡ 3 → ⊥) → l ≡ whole_at l k
-unfolding whole_at
-whole_other l k c h i = rw (ne_eqb (rec_of l k).call 3 (λ z. i (h ∙ z)))
-
 -- a number's or another record's test
 pub end_other : (r : Rec) (c : ℕ) → c ≡ r.call → (c ≡ 3 → ⊥) → eqb c 5 ≡ is_end r
 end_other r c e f = rw (ne_eqb r.call 3 (λ z. f (e ∙ z))) (ap (λ (z : ℕ). eqb z 5) e)
-
-pub end_number : (r : Rec) (c a : ℕ) → c ≡ r.call → c ≡ 3 → a ≡ r.a → ltb 0 a ≡ is_end r
-end_number r c a e f g =
-    let h : r.call ≡ 3 = sym e ∙ f in
-    rw (h, g) (or_false (ltb 0 r.a))
-  where
-    or_false : (b : Bool) → b ≡ either b false
-    or_false true = refl
-    or_false false = refl
-
-pub next_any : (f r : Rec) (c a : ℕ) → c ≡ r.call → c ≡ 24 → a ≡ r.a → a ≡ 0 → true ≡ is_next_of f r
-next_any f r c a e g h i = rw (eq-eqb r.call 24 (sym e ∙ g), eq-eqb r.a 0 (sym h ∙ i))
-
-pub next_same : (f r : Rec) (c a b : ℕ) → c ≡ r.call → c ≡ 24 → a ≡ r.a → (a ≡ 0 → ⊥) → b ≡ f.a → eqb (a - 1) b ≡ is_next_of f r
-next_same f r c a b e g h i j =
-    rw (eq-eqb r.call 24 (sym e ∙ g), ne_eqb r.a 0 (λ z. i (h ∙ z)), ← h, ← j) (less a b i)
-  where
-    less : (a b : ℕ) → (a ≡ 0 → ⊥) → eqb (a - 1) b ≡ eqb a (b + 1)
-    less a b z = which (eqb (a - 1) b) refl
-      where
-        which : (c : Bool) → eqb (a - 1) b ≡ c → c ≡ eqb a (b + 1)
-        which true y = let x = eqb-true (a - 1) b y in sym (eq-eqb a (b + 1) (omega arith))
-        which false y = let x = eqb-false (a - 1) b y in sym (ne_eqb a (b + 1) (λ w. x (omega arith)))
-
-pub one_yes : (r : Rec) (c a b : ℕ) → c ≡ r.call → c ≡ 3 → a ≡ r.a → a ≡ 129 → b ≡ r.b → eqb b 2147483648 ≡ is_one r
-one_yes r c a b e f g h i = rw (eq-eqb r.call 3 (sym e ∙ f), eq-eqb r.a 129 (sym g ∙ h)) (ap (λ (z : ℕ). eqb z 2147483648) i)
-
-pub unit_start : (e : ℕ) → e < 160 → (1 ≡ 2 ^ (e - e)) × (e ≤ e) × (e ≤ 160)
-unit_start e h = let z : e - e ≡ 0 = omega arith in (rw z, omega arith, omega arith)
 
 -- the names' tags and links go: a name, another entry, none; and all of them
 pub unlink_name : (b : List ℕ) (k c u h w v : ℕ) → k < length b / 4 → c ≡ kind_at b (4 * k) → 127 < c → u ≡ get_or b (4 * k) 0 → h ≡ word_of 50 u → w ≡ get_or b (4 * k + 3) 0 → v ≡ sigil_of (w % 4)
@@ -215,9 +137,6 @@ unlink_step b b' L k end h e f =
     let q : end - k ≡ suc (end - (k + 1)) = omega arith in
     rw f (rw q at e)
 
-pub unlink_end : (b₀ b : List ℕ) (st : List ℕ) (k end : ℕ) → end ≡ known b₀ st → end ≤ k → unlink_from b k (end - k) ≡ unlink_from b₀ 0 (end - 0) → b ≡ unlinked b₀ st
+pub unlink_end : (b₀ b : List ℕ) (st : List ℕ) (k end : ℕ) → end ≡ known b₀ st → end ≤ k → unlink_from b k (end - k) ≡ unlink_from b₀ 0 end → b ≡ unlinked b₀ st
 unfolding unlink_from unlinked
-unlink_end b₀ b st k end r h e =
-    let q : end - k ≡ 0 = omega arith in
-    let o : end - 0 ≡ known b₀ st = omega arith in
-    (rw q at e) ∙ ap (λ (z : ℕ). unlink_from b₀ 0 z) o
+unlink_end b₀ b st k end r h e = let q : end - k ≡ 0 = omega arith in rw q at (e ∙ ap (λ (z : ℕ). unlink_from b₀ 0 z) r)

@@ -9,7 +9,7 @@ use lib.Dec.{ltb, eqb}
 use lib.ListN.{length, get_or, set, take, drop, length-set, take-append-drop, get_or-eq_default}
 use lib.Seq.{length-take-le, take_at, drop_at, take-set-le, drop-set-add, get_or-drop, get_or-set_same, get_or-set_other, set_comm}
 use borrow.Author.Tests.{lt-ltb, ltb-true, ltb-false, eqb-true, eqb-false, ne_eqb}
-use native.Mathlib.Numerals.{add-one, sub-one}
+use native.Mathlib.Numerals.{add-one}
 use native.Mathlib.Omega.{arith}
 use Rattle.recorder.specs.Recorder.{unknown}
 use Rattle.recorder.specs.Word.{pick, both, either, word_of}
@@ -426,18 +426,17 @@ pub record Rest (l : List ℕ) (top k left : ℕ) (L : List ℕ) (T : ℕ) : Typ
   pub list_is : delays_from (whiles_from l top k left) k left ≡ L
   pub top_is : top_from l top k left ≡ T
 
-pub rest_start : (l : List ℕ) (n : ℕ) → Rest l 0 0 n (delays_from (whiles_from l 0 0 n) 0 n) (top_from l 0 0 n)
-rest_start l n = record { opens = none; below = omega arith; list_is = refl; top_is = refl }
+pub rest_start : (l : List ℕ) (n : ℕ) → Rest l 0 0 (n - 0) (delays_from (whiles_from l 0 0 n) 0 n) (top_from l 0 0 n)
+rest_start l n = let z : n - 0 ≡ n = omega arith in rw z (record { opens = none; below = omega arith; list_is = refl; top_is = refl })
 
-pub rest_step : (l l' L : List ℕ) (top top' k left T : ℕ) → 0 < left → Rest l top k left L T → (l' ≡ while_list (delay_list l k) top k) × (top' ≡ while_top (delay_list l k) top k) → Rest l' top' (k + 1) (left - 1) L T
+rest_next : (l l' L : List ℕ) (top top' k left T : ℕ) → Rest l top k (suc left) L T → (l' ≡ while_list (delay_list l k) top k) × (top' ≡ while_top (delay_list l k) top k) → Rest l' top' (k + 1) left L T
 unfolding delays_from whiles_from top_from
-rest_step l l' L top top' k zero T h r f = absurd (omega arith)
-rest_step l l' L top top' k (suc left) T h r f =
+rest_next l l' L top top' k left T r f =
     let D : List ℕ → List ℕ = λ m. delay_list m k in
     let q = while_commutes D (λ m. keeps_delay m k) l top k r.opens in
     let s = opens_step l top k r.opens r.below in
     let t = whiles_commute D (λ m. keeps_delay m k) left (while_list l top k) (while_top l top k) (k + 1) s.0 s.1 in
-    rw (f.0, f.1, q.0, q.1, sub-one) (record {
+    rw (f.0, f.1, q.0, q.1) (record {
       opens = opens_delay s.0;
       below = s.1;
       list_is = rw t.0 r.list_is;
@@ -446,6 +445,9 @@ rest_step l l' L top top' k (suc left) T h r f =
   where
     opens_delay : {m : List ℕ} {t : ℕ} → OpenWhiles m t → OpenWhiles (delay_list m k) t
     opens_delay {m} c = let K = keeps_delay m k in opens_kept c K.long (λ w g x. (K.whiles w ∙ x, K.words w (5 * w + 3) x (omega arith) (omega arith)))
+
+pub rest_step : (l l' L : List ℕ) (top top' k n T : ℕ) → k < n → Rest l top k (n - k) L T → (l' ≡ while_list (delay_list l k) top k) × (top' ≡ while_top (delay_list l k) top k) → Rest l' top' (k + 1) (n - (k + 1)) L T
+rest_step l l' L top top' k n T h r f = let q : n - k ≡ suc (n - (k + 1)) = omega arith in rest_next l l' L top top' k (n - (k + 1)) T (rw q at r) f
 
 pub rest_end : (l L : List ℕ) (top k left T : ℕ) → left ≤ 0 → Rest l top k left L T → (l ≡ L) × (top ≡ T)
 unfolding delays_from whiles_from top_from

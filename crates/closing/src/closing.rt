@@ -6,8 +6,8 @@ ghost use Rattle.recorder.specs.Layout.{rec_size, range_word_at, most_records};
 ghost use Rattle.recorder.specs.Mem.{note_list, note_st, rec_of, set_b, at_rec, while_list, while_top, whiles_from, top_from, passed, open_from, set_head, rewrite, unit_of, whole_at, delay_at, stepped_at, delayed_at, stepped_delayed_at, delay_list, delays_from, clean_up_all, sigil_of, unlink_at, unlinked};
 
 use recorder::codegen::{
-    A, B, ENTRIES, ENTRY, EXTRA, RANGE, RECORD, RECORDS, St, least, most_records, put, put_note,
-    set_a, set_b, set_c,
+    A, B, ENTRIES, ENTRY, EXTRA, RANGE, RECORD, RECORDS, St, most_records, put, put_note, set_a,
+    set_b, set_c,
 };
 use recorder::word::{Range, kind_at, word_at, word_of};
 
@@ -40,14 +40,10 @@ fn b_of(list: &[u32], k: u32) -> u32
 fn present_of(words: usize, records: usize) -> u16
     ensures { result ≡ min records (most_records words) }
 {
-    let n = most_records(words);
-    if records < n {
-        records as u16
-    } else {
-        n as u16
-    }
+    records.min(most_records(words)) as u16
 }
 
+#[tactic(auto, unfolding(recorder::specs::Mem::at_rec, recorder::specs::Mem::part))]
 fn set_b_at(list: &mut [u32], k: u32, v: u32)
     ensures { list.new ≡ at_rec (set_b v) list.old k }
 {
@@ -61,13 +57,11 @@ fn set_b_at(list: &mut [u32], k: u32, v: u32)
 fn is_wend(list: &[u32], k: u32) -> bool
     ensures { result ≡ is_wend (rec_of list.now k) }
 {
-    if call_of(list, k) != 2 {
-        return false;
-    }
-    a_of(list, k) == 62
+    call_of(list, k) == 2 && a_of(list, k) == 62
 }
 
 // The record at k of the pass over the WHILEs; returns the last that is open, plus 1.
+#[tactic(auto, unfolding(recorder::specs::Mem::while_list, recorder::specs::Mem::while_top))]
 fn while_step(list: &mut [u32], top: u32, k: u16) -> u32
     ensures { (list.new ≡ while_list list.old top k) × (result ≡ while_top list.old top k) }
 {
@@ -76,10 +70,7 @@ fn while_step(list: &mut [u32], top: u32, k: u16) -> u32
         set_b_at(list, at, top);
         return at + 1;
     }
-    if !is_wend(list, at) {
-        return top;
-    }
-    if top == 0 {
+    if top == 0 || !is_wend(list, at) {
         return top;
     }
     let w = top - 1;
@@ -102,16 +93,14 @@ fn open_whiles(list: &mut [u32], notes: &mut [u32], st: &mut St, top: u32, n: u1
     ensures { passed list.new notes.new st.new ≡ open_from (passed list.old notes.old st.old) top n }
 {
     let mut t = top;
-    let mut left = n;
-    while 0 < left {
+    for _ in 0..n {
         if t == 0 {
             return;
         }
         let w = t - 1;
         t = b_of(list, w);
         open_note(list, notes, st, w);
-        set_b_at(list, w, 4294967295);
-        left -= 1;
+        set_b_at(list, w, u32::MAX);
     }
 }
 
@@ -134,6 +123,7 @@ fn rewrite_part(part: &mut [u32], call: u8, a: u32, b: u32, c: u32)
     set_c(part, c);
 }
 
+#[tactic(auto, unfolding(recorder::specs::Mem::at_rec, recorder::specs::Mem::part))]
 fn rewrite_at(list: &mut [u32], k: u32, call: u8, a: u32, b: u32, c: u32)
     ensures { list.new ≡ at_rec (rewrite call a b c) list.old k }
 {
@@ -151,14 +141,9 @@ fn unit_of(e: u32) -> u64
     if e < 129 {
         return 1;
     }
-    if 160 <= e {
-        return 1;
-    }
     let mut u: u64 = 1;
-    let mut i = e;
-    while i < 160 {
+    for _ in e..160 {
         u *= 2;
-        i += 1;
     }
     u
 }
@@ -187,6 +172,7 @@ pub fn round_up(e: u32, m: u32) -> Number
     }
 }
 
+#[tactic(auto, unfolding(recorder::specs::Mem::whole_at))]
 fn whole_at(list: &mut [u32], k: u32)
     ensures { list.new ≡ whole_at list.old k }
 {
@@ -199,101 +185,68 @@ fn whole_at(list: &mut [u32], k: u32)
 fn is_zero(list: &[u32], k: u32) -> bool
     ensures { result ≡ is_zero (rec_of list.now k) }
 {
-    if call_of(list, k) != 3 {
-        return false;
-    }
-    a_of(list, k) == 0
+    call_of(list, k) == 3 && a_of(list, k) == 0
 }
 
 fn is_one(list: &[u32], k: u32) -> bool
     ensures { result ≡ is_one (rec_of list.now k) }
 {
-    if call_of(list, k) != 3 {
-        return false;
-    }
-    if a_of(list, k) != 129 {
-        return false;
-    }
-    b_of(list, k) == 2147483648
+    call_of(list, k) == 3 && a_of(list, k) == 129 && b_of(list, k) == 2147483648
 }
 
 fn is_start(list: &[u32], k: u32) -> bool
     ensures { result ≡ is_start (rec_of list.now k) }
 {
-    if is_zero(list, k) {
-        return true;
-    }
-    is_one(list, k)
+    is_zero(list, k) || is_one(list, k)
 }
 
 fn is_end(list: &[u32], k: u32) -> bool
     ensures { result ≡ is_end (rec_of list.now k) }
 {
-    let call = call_of(list, k);
-    if call != 3 {
-        return call == 5;
+    match call_of(list, k) {
+        3 => 0 < a_of(list, k),
+        call => call == 5,
     }
-    0 < a_of(list, k)
 }
 
 fn is_for(list: &[u32], k: u32, step: u32) -> bool
     ensures { result ≡ is_for step (rec_of list.now k) }
 {
-    if call_of(list, k) != 23 {
-        return false;
-    }
-    b_of(list, k) == step
+    call_of(list, k) == 23 && b_of(list, k) == step
 }
 
 fn is_next_of(list: &[u32], f: u32, k: u32) -> bool
     ensures { result ≡ is_next_of (rec_of list.now f) (rec_of list.now k) }
 {
-    if call_of(list, k) != 24 {
-        return false;
-    }
     let a = a_of(list, k);
-    if a == 0 {
-        return true;
-    }
-    a - 1 == a_of(list, f)
+    call_of(list, k) == 24 && (a == 0 || a - 1 == a_of(list, f))
 }
 
+#[tactic(auto, unfolding(recorder::specs::Mem::delay_at))]
 fn is_delay(list: &[u32], at: u16) -> bool
     ensures { result ≡ delay_at list.now at }
 {
     let k = at as u32;
-    if !is_start(list, k) {
-        return false;
-    }
-    if !is_end(list, k + 1) {
-        return false;
-    }
-    if !is_for(list, k + 2, 0) {
-        return false;
-    }
-    is_next_of(list, k + 2, k + 3)
+    is_start(list, k)
+        && is_end(list, k + 1)
+        && is_for(list, k + 2, 0)
+        && is_next_of(list, k + 2, k + 3)
 }
 
+#[tactic(auto, unfolding(recorder::specs::Mem::stepped_at))]
 fn is_stepped_delay(list: &[u32], at: u16) -> bool
     ensures { result ≡ stepped_at list.now at }
 {
     let k = at as u32;
-    if !is_start(list, k) {
-        return false;
-    }
-    if !is_end(list, k + 1) {
-        return false;
-    }
-    if !is_one(list, k + 2) {
-        return false;
-    }
-    if !is_for(list, k + 3, 1) {
-        return false;
-    }
-    is_next_of(list, k + 3, k + 4)
+    is_start(list, k)
+        && is_end(list, k + 1)
+        && is_one(list, k + 2)
+        && is_for(list, k + 3, 1)
+        && is_next_of(list, k + 3, k + 4)
 }
 
 // "It becomes no-op, end, (no-op), SLEEP, no-op."
+#[tactic(auto, unfolding(recorder::specs::Mem::delayed_at))]
 fn make_delay(list: &mut [u32], at: u16)
     ensures { list.new ≡ delayed_at list.old at }
 {
@@ -304,6 +257,7 @@ fn make_delay(list: &mut [u32], at: u16)
     rewrite_at(list, k + 3, 1, 0, 0, 0);
 }
 
+#[tactic(auto, unfolding(recorder::specs::Mem::stepped_delayed_at))]
 fn make_stepped_delay(list: &mut [u32], at: u16)
     ensures { list.new ≡ stepped_delayed_at list.old at }
 {
@@ -315,14 +269,13 @@ fn make_stepped_delay(list: &mut [u32], at: u16)
     rewrite_at(list, k + 4, 1, 0, 0, 0);
 }
 
+#[tactic(auto, unfolding(recorder::specs::Mem::delay_list))]
 fn delay_step(list: &mut [u32], at: u16)
     ensures { list.new ≡ delay_list list.old at }
 {
     if is_delay(list, at) {
         make_delay(list, at);
-        return;
-    }
-    if is_stepped_delay(list, at) {
+    } else if is_stepped_delay(list, at) {
         make_stepped_delay(list, at);
     }
 }
@@ -347,12 +300,8 @@ fn close_loops(list: &mut [u32], n: u16) -> u32
     ensures { (list.new ≡ delays_from (whiles_from list.old 0 0 n) 0 n) × (result ≡ top_from list.old 0 0 n) }
 {
     let mut top: u32 = 0;
-    let mut k: u16 = 0;
-    let mut left = n;
-    while 0 < left {
+    for k in 0..n {
         top = loop_step(list, top, k);
-        k += 1;
-        left -= 1;
     }
     top
 }
@@ -370,13 +319,11 @@ pub fn clean_up(list: &mut [u32], notes: &mut [u32], st: &mut St)
 fn sigil_of(c: u32) -> u32
     ensures { result ≡ sigil_of c }
 {
-    if c == 1 {
-        return 36;
+    match c {
+        1 => 36,
+        2 => 37,
+        _ => 0,
     }
-    if c == 2 {
-        return 37;
-    }
-    0
 }
 
 // An entry as document 01 has it: a name's head has its kind in place of the tag, its last word its sigil alone.
@@ -398,10 +345,8 @@ fn unlink_at(book: &mut [u32], k: usize)
 pub fn unlink_names(book: &mut [u32], st: &St)
     ensures { book.new ≡ unlinked book.old st.now }
 {
-    let end = least(st[ENTRIES], book.len() / ENTRY);
-    let mut k: usize = 0;
-    while k < end {
+    let end = st[ENTRIES].min(book.len() / ENTRY);
+    for k in 0..end {
         unlink_at(book, k);
-        k += 1;
     }
 }

@@ -8,60 +8,42 @@ use borrow.Author.Tests.{le-leb, lt-leb}
 use lib.ListN.{length, replicate}
 use Rattle.recorder.specs.Word.{payload_at}
 use Rattle.recorder.specs.Mem.{Mem, mem, mem_r, nothing, as_word, records_in, notes_in, entries_in, list_full, notes_full, book_full}
-use Rattle.sheet.specs.declared.form.Checked.{Checked}
-use Rattle.sheet.specs.declared.form.Checked.TheVariants.{Accepted, TooLong, Surrogate, WorkTooShort, Offends}
-use Rattle.sheet.specs.declared.form.Offence.TheVariants.{BadWord, TooDeep, BadLength, BadRange, Fseek}
+use Rattle.sheet.specs.Check.{Checked}
+use Rattle.sheet.specs.Check.{Accepted}
+use Rattle.sheet.specs.declared.form.Refusal.{Refusal}
+use Rattle.std.specs.Prelude.{Ok, Err}
 use Rattle.sheet.specs.Check.{checked, refusal_number, refusal_place}
 use Rattle.walk.proofs.LinesFit.{lines_fit, lines_few}
 use Rattle.labels.specs.MarksIn.{MarksIn}
 use Rattle.program.specs.Line.{Programmed}
 use Rattle.rules.specs.Program.{Lines, close_up}
 use Rattle.recorder.specs.Layout.{most_records}
-use Rattle.rules.specs.Outcome.{Outcome, Lengths, lengths, refused, finished, sized, outcome_by, outcome}
+use Rattle.rules.specs.Outcome.{Outcome, Lengths, lengths, refused, finished, sized, outcome}
 use Rattle.rules.specs.MemAnswer.{mem_sized}
 use Rattle.rules.proofs.SimOutcome.{mem_lines, mem_outcome, held_outcome}
 use Rattle.compiler.specs.Answered.{outcome_of}
 
 -- refusals 1 to 8
-refused_by_lem : (c : Checked) (s t : List ℕ) (L : Lengths) → (refusal_number c ≡ 0 → ⊥) → refused (refusal_number c) (refusal_place c) L ≡ outcome_by c s t L
-refused_by_lem Accepted s t L h = absurd (h refl)
-refused_by_lem TooLong s t L h = refl
-refused_by_lem Surrogate s t L h = refl
-refused_by_lem WorkTooShort s t L h = refl
-refused_by_lem (Offends o) s t L h = refl
-
-pub refused_is : (s t : List ℕ) (L : Lengths) (c : Checked) (k p : ℕ) (o : Outcome) → c ≡ checked s t L.work → k ≡ refusal_number c → (k ≡ 0 → ⊥) → p ≡ refusal_place c
-    → o ≡ refused k p L → o ≡ outcome s t L
+pub refused_is : (s t : List ℕ) (L : Lengths) (c : Checked) (r : Refusal) (o : Outcome) → c ≡ checked s t L.work → c ≡ Err r
+    → o ≡ refused (refusal_number r) (refusal_place r) L → o ≡ outcome s t L
 unfolding outcome
-refused_is s t L c k p o hc hk d hp e =
-    let g : (refusal_number c ≡ 0 → ⊥) = λ z. d (hk ∙ z) in
-    e ∙ ap (λ (n : ℕ). refused n p L) hk ∙ ap (λ (n : ℕ). refused (refusal_number c) n L) hp ∙ refused_by_lem c s t L g ∙ ap (λ (x : Checked). outcome_by x s t L) hc
+refused_is s t L c r o hc d e = rw (← hc, d) e
 
 -- no refusal: the form is good
-number_none : (c : Checked) → refusal_number c ≡ 0 → c ≡ Accepted
-number_none Accepted e = refl
-number_none TooLong e = absurd (omega arith)
-number_none Surrogate e = absurd (omega arith)
-number_none WorkTooShort e = absurd (omega arith)
-number_none (Offends (BadWord p)) e = absurd (omega arith)
-number_none (Offends (TooDeep p)) e = absurd (omega arith)
-number_none (Offends (BadLength p)) e = absurd (omega arith)
-number_none (Offends (BadRange p)) e = absurd (omega arith)
-number_none (Offends (Fseek p)) e = absurd (omega arith)
+good : (s t : List ℕ) (work : ℕ) (c : Checked) → c ≡ checked s t work → ((r : Refusal) → c ≡ Err r → ⊥) → checked s t work ≡ Accepted
+good s t work (Ok u) hc d = sym hc
+good s t work (Err r) hc d = absurd (d r refl)
 
-good : (s t : List ℕ) (work : ℕ) (c : Checked) (k : ℕ) → c ≡ checked s t work → k ≡ refusal_number c → k ≡ 0 → checked s t work ≡ Accepted
-good s t work c k hc hk d = sym hc ∙ number_none c (sym hk ∙ d)
+pub lines_room : (s t : List ℕ) (work work1 : ℕ) (c : Checked) → c ≡ checked s t work → ((r : Refusal) → c ≡ Err r → ⊥) → work1 ≡ work → 3 * payload_at s 0 < work1
+lines_room s t work work1 c hc d h = omega (arith, h, lines_fit s t work (good s t work c hc d))
 
-pub lines_room : (s t : List ℕ) (work work1 : ℕ) (c : Checked) (k : ℕ) → c ≡ checked s t work → k ≡ refusal_number c → k ≡ 0 → work1 ≡ work → 3 * payload_at s 0 < work1
-lines_room s t work work1 c k hc hk d h = omega (arith, h, lines_fit s t work (good s t work c k hc hk d))
+pub few_lines : (s t : List ℕ) (work : ℕ) (c : Checked) → c ≡ checked s t work → ((r : Refusal) → c ≡ Err r → ⊥) → payload_at s 0 < 65536
+few_lines s t work c hc d = lines_few s t work (good s t work c hc d)
 
-pub few_lines : (s t : List ℕ) (work : ℕ) (c : Checked) (k : ℕ) → c ≡ checked s t work → k ≡ refusal_number c → k ≡ 0 → payload_at s 0 < 65536
-few_lines s t work c k hc hk d = lines_few s t work (good s t work c k hc hk d)
-
-pub accepted_is : (s t : List ℕ) (L : Lengths) (c : Checked) (k : ℕ) (o : Outcome) → c ≡ checked s t L.work → k ≡ refusal_number c → k ≡ 0
+pub accepted_is : (s t : List ℕ) (L : Lengths) (c : Checked) (o : Outcome) → c ≡ checked s t L.work → ((r : Refusal) → c ≡ Err r → ⊥)
     → o ≡ sized (finished s t) L → o ≡ outcome s t L
 unfolding outcome
-accepted_is s t L c k o hc hk d e = rw (good s t L.work c k hc hk d) e
+accepted_is s t L c o hc d e = rw (good s t L.work c hc d) e
 
 -- the sizes
 pub notes_full_lem : (L : Lengths) (m : Mem) (o : Outcome) → notes_full m.st ≡ true → o ≡ refused 10 0 L → o ≡ mem_sized L m
@@ -71,7 +53,7 @@ pub book_full_lem : (L : Lengths) (m : Mem) (o : Outcome) → notes_full m.st �
 book_full_lem L m o h i e = rw (h, i) e
 
 pub all_fit : (L : Lengths) (l n b w st : List ℕ) (k : ℕ) → notes_full st ≡ false → book_full st ≡ false → w ≡ replicate L.work 0 → k ≡ as_word (records_in st)
-    → outcome_of (record { refusal = 0; place = 0; records = k; notes = notes_in st; entries = entries_in st }) l n b w ≡ mem_sized L (mem l n b st)
+    → outcome_of (Ok (record { records = k; notes = notes_in st; entries = entries_in st })) l n b w ≡ mem_sized L (mem l n b st)
 all_fit L l n b w st k h i e f = rw (h, i, e, f)
 
 -- 9, known once the lines are compiled
@@ -144,6 +126,6 @@ pub same_sized : (s t l n b w : List ℕ) (i j k h : ℕ) (o : Outcome) → i �
     → o ≡ sized (finished s t) (lengths i j k h) → o ≡ sized (finished s t) (lengths (length l) (length n) (length b) (length w))
 same_sized s t l n b w i j k h o hl hn hb hw e = e ∙ ap (λ (x : Lengths). sized (finished s t) x) (same_lengths l n b w i j k h hl hn hb hw)
 
-pub cleared_refused : (l n b w l1 n1 b1 w1 : List ℕ) (k p : ℕ) → l1 ≡ replicate (length l) 0 → n1 ≡ replicate (length n) 0 → b1 ≡ replicate (length b) 0 → w1 ≡ replicate (length w) 0
-    → outcome_of (record { refusal = k; place = p; records = 0; notes = 0; entries = 0 }) l1 n1 b1 w1 ≡ refused k p (lengths (length l) (length n) (length b) (length w))
-cleared_refused l n b w l1 n1 b1 w1 k p hl hn hb hw = rw (hl, hn, hb, hw)
+pub cleared_refused : (l n b w l1 n1 b1 w1 : List ℕ) (r : Refusal) → l1 ≡ replicate (length l) 0 → n1 ≡ replicate (length n) 0 → b1 ≡ replicate (length b) 0 → w1 ≡ replicate (length w) 0
+    → outcome_of (Err r) l1 n1 b1 w1 ≡ refused (refusal_number r) (refusal_place r) (lengths (length l) (length n) (length b) (length w))
+cleared_refused l n b w l1 n1 b1 w1 r hl hn hb hw = rw (hl, hn, hb, hw)

@@ -8,10 +8,10 @@ use lib.Dec.{ltb}
 use lib.ListN.{length}
 use Rattle.recorder.specs.Word.{pick}
 use Rattle.recorder.specs.Layout.{note_size, entry_size, most_records}
-use Rattle.sheet.specs.declared.form.Checked.{Checked}
-use Rattle.sheet.specs.declared.form.Checked.TheVariants.{Accepted, TooLong, Surrogate, WorkTooShort, Offends}
-use Rattle.sheet.specs.declared.form.Offence.TheVariants.{BadWord, TooDeep, BadLength, BadRange, Fseek}
-use Rattle.sheet.specs.Check.{checked, refusal_place}
+use Rattle.sheet.specs.Check.{Checked}
+use Rattle.std.specs.Prelude.{Ok, Err}
+use Rattle.sheet.specs.Check.{checked, refusal_number, refusal_place, answer_place}
+use Rattle.sheet.proofs.Numbers.{refusal_some, refusal_low}
 use Rattle.sheet.specs.Tree.{program_at}
 use Rattle.walk.proofs.Within.{place_within}
 use Rattle.rules.specs.Outcome.{Outcome, Lengths, accepted, finished, sized, outcome_by, outcome}
@@ -31,16 +31,9 @@ ended_sized s t L =
     (ended_pick s t L (ltb (L.notes / note_size) (length (finished s t).notes)) _ _ (none 10 0 (omega arith) (omega arith) (omega arith))
     (ended_pick s t L (ltb (L.book / entry_size) (length (finished s t).entries)) _ _ (none 11 0 (omega arith) (omega arith) (omega arith)) whole))
 
-ended_by : (s t : List ℕ) (L : Lengths) (c : Checked) → refusal_place c ≤ length s → Ended s t L (outcome_by c s t L)
-ended_by s t L Accepted h = ended_sized s t L
-ended_by s t L TooLong h = none 1 0 (omega arith) (omega arith) h
-ended_by s t L Surrogate h = none 2 0 (omega arith) (omega arith) h
-ended_by s t L WorkTooShort h = none 3 0 (omega arith) (omega arith) h
-ended_by s t L (Offends (BadWord p)) h = none 4 p (omega arith) (omega arith) h
-ended_by s t L (Offends (TooDeep p)) h = none 5 p (omega arith) (omega arith) h
-ended_by s t L (Offends (BadLength p)) h = none 6 p (omega arith) (omega arith) h
-ended_by s t L (Offends (BadRange p)) h = none 7 p (omega arith) (omega arith) h
-ended_by s t L (Offends (Fseek p)) h = none 8 p (omega arith) (omega arith) h
+ended_by : (s t : List ℕ) (L : Lengths) (c : Checked) → answer_place c ≤ length s → Ended s t L (outcome_by c s t L)
+ended_by s t L (Ok u) h = ended_sized s t L
+ended_by s t L (Err r) h = none (refusal_number r) (refusal_place r) (omega (arith, refusal_some r)) (refusal_low r) h
 
 -- THEOREM: the first demand
 pub first : (s t : List ℕ) (L : Lengths) → Ended s t L (outcome s t L)

@@ -4,21 +4,23 @@
 ghost use Rattle.std.specs.Prelude.{◌≡◌, ◌*◌, ◌<◌, length, replicate};
 ghost use Rattle.recorder.specs.Word.{payload_at};
 ghost use Rattle.recorder.specs.Mem.{mem};
+ghost use Rattle.sheet.specs.Check.{refusal_number, refusal_place};
 ghost use Rattle.rules.specs.Outcome.{lengths, refused, finished, sized, outcome};
 ghost use Rattle.rules.specs.MemAnswer.{mem_sized};
 ghost use Rattle.compiler.specs.Answered.{outcome_of};
 
 use recorder::codegen::{BOOK_FULL, CELLS, ENTRIES, LIST_FULL, NOTES, NOTES_FULL, RECORDS, St};
+use sheet::form::Refusal;
 
-// The refusal, 0 for none, its place in the sheet, and the numbers of records, notes and book entries.
-#[derive(Clone, Copy)]
-pub struct Answer {
-    pub refusal: u32,
-    pub place: usize,
+// How many records, notes and book entries a sheet makes.
+#[derive(Clone, Copy, PartialEq, Eq)]
+pub struct Sizes {
     pub records: u32,
     pub notes: usize,
     pub entries: usize,
 }
+
+pub type Answer = Result<Sizes, Refusal>;
 
 // A refusal leaves nothing but zeros.
 fn refuse(
@@ -26,22 +28,15 @@ fn refuse(
     notes: &mut [u32],
     book: &mut [u32],
     work: &mut [u32],
-    refusal: u32,
-    place: usize,
+    refusal: Refusal,
 ) -> Answer
-    ensures { outcome_of result list.new notes.new book.new work.new ≡ refused refusal place (lengths (length list.old) (length notes.old) (length book.old) (length work.old)) }
+    ensures { outcome_of result list.new notes.new book.new work.new ≡ refused (refusal_number refusal) (refusal_place refusal) (lengths (length list.old) (length notes.old) (length book.old) (length work.old)) }
 {
     recorder::codegen::clear(list);
     recorder::codegen::clear(notes);
     recorder::codegen::clear(book);
     recorder::codegen::clear(work);
-    Answer {
-        refusal,
-        place,
-        records: 0,
-        notes: 0,
-        entries: 0,
-    }
+    Err(refusal)
 }
 
 // Closed up, with all records in the list: do notes and book fit, too?
@@ -55,20 +50,18 @@ fn sized_up(
     ensures { outcome_of result list.new notes.new book.new work.new ≡ mem_sized (lengths (length list.old) (length notes.old) (length book.old) (length work.old)) (mem list.old notes.old book.old st.now) }
 {
     if 0 < st[NOTES_FULL] {
-        return refuse(list, notes, book, work, 10, 0);
+        return refuse(list, notes, book, work, Refusal::NotesTooShort);
     }
     if 0 < st[BOOK_FULL] {
-        return refuse(list, notes, book, work, 11, 0);
+        return refuse(list, notes, book, work, Refusal::BookTooShort);
     }
     recorder::codegen::clear(work);
     let end = recorder::codegen::current_addr(st);
-    Answer {
-        refusal: 0,
-        place: 0,
+    Ok(Sizes {
         records: end.0,
         notes: st[NOTES],
         entries: st[ENTRIES],
-    }
+    })
 }
 
 // A sheet whose form is good, with zeros lent, and three words of work for each line and one more.
@@ -85,10 +78,10 @@ fn compile_accepted(
     let mut st: St = [0; CELLS];
     let n = program::line::compile_prog(sheet, text, list, notes, book, work, &mut st);
     if 0 < st[LIST_FULL] {
-        return refuse(list, notes, book, work, 9, 0);
+        return refuse(list, notes, book, work, Refusal::ListTooShort);
     }
     if recorder::codegen::most_records(list.len()) <= st[RECORDS] {
-        return refuse(list, notes, book, work, 9, 0);
+        return refuse(list, notes, book, work, Refusal::ListTooShort);
     }
     resolution::resolve::close_up(list, notes, book, work, &mut st, n);
     sized_up(list, notes, book, work, &st)
@@ -106,17 +99,8 @@ pub fn compile(
 ) -> Answer
     ensures { outcome_of result list.new notes.new book.new work.new ≡ outcome sheet.now text.now (lengths (length list.old) (length notes.old) (length book.old) (length work.old)) }
 {
-    let c = acceptance::check(sheet, text, work.len());
-    let refusal = sheet::form::refusal_number(c);
-    if refusal != 0 {
-        return refuse(
-            list,
-            notes,
-            book,
-            work,
-            refusal,
-            sheet::form::refusal_place(c),
-        );
+    if let Err(refusal) = acceptance::check(sheet, text, work.len()) {
+        return refuse(list, notes, book, work, refusal);
     }
     recorder::codegen::clear(list);
     recorder::codegen::clear(notes);

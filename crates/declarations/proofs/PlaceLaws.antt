@@ -12,14 +12,12 @@ use Rattle.sheet.specs.declared.form.Shape.TheVariants.{Dim, Field}
 use Rattle.sheet.specs.Table.{expr_fields}
 use Rattle.sheet.specs.Skip.{skip_node, skip_repeat, skip_list, skip_fields, skip_field, skip_times, skip_pair, skip_item}
 use Rattle.sheet.specs.Tree.{Expr, count, expr_at, expr_node, exprs_at, items_at, opt_at, stmt_node, field_spec_at, args_at}
-use Rattle.rules.specs.declared.types.«Type».{«Type» as Ty}
 use Rattle.rules.specs.declared.types.«Type».TheVariants.{Real, String}
 use Rattle.rules.specs.declared.tables.Wants.TheVariants.{Every}
-use Rattle.rules.specs.Expr.{compile_sym, compile_typed}
+use Rattle.rules.specs.Expr.{compile_typed}
 use Rattle.rules.specs.Stmt.{compile_stmt, place_typed, dim_node, dim_one, compile_dim, compile_fields, compile_field}
-use Rattle.nodes.specs.declared.node.OptRange.{OptRange}
-use Rattle.nodes.specs.declared.node.OptRange.TheVariants.{Given, Absent}
-use Rattle.nodes.specs.Compiled.{sym, opt_of, CompiledArgs, CompiledTyped, PlaceTyped, PayloadAt}
+use Rattle.std.specs.Prelude.{Option}
+use Rattle.nodes.specs.Compiled.{opt_of, CompiledArgs, CompiledTyped, PlaceTyped, PayloadAt}
 use Rattle.expressions.specs.Body.{Body}
 use Rattle.expressions.proofs.Lists.{exprs_step, items_step, repeat_step, items_length, place_same, repeat_same, items_same}
 use Rattle.expressions.proofs.ExprLaws.{Head, node, over, how_many_lem}
@@ -29,18 +27,11 @@ pub plain_head : (s : List ℕ) (left at k q p : ℕ) → (left ≡ 0 → ⊥) �
 plain_head s left at k q p d hk hq hp = record { deep = d; kind = hk; range = refl; behind = rw (← hq) hp }
 
 -- DIM
-pub dim_named : (t : List ℕ) (base n : ℕ) (o : OptRange) (nr : Range) (m m1 m2 : Mem) (v : ℕ) (ty : Ty) → o ≡ Given nr → sym m1 v ty ≡ compile_sym (mem_r t) t base nr m
-    → m2 ≡ (mem_r t).emit m1 28 nr v n 0 → m2 ≡ dim_node (mem_r t) t base (opt_of o) n m
-dim_named t base n o nr m m1 m2 v ty e p q = rw (e, ← p, q)
-
-pub dim_unnamed : (t : List ℕ) (base n : ℕ) (o : OptRange) (m : Mem) → o ≡ Absent → m ≡ dim_node (mem_r t) t base (opt_of o) n m
-dim_unnamed t base n o m e = rw e
-
 pub dim_zero : (s t : List ℕ) (base left at : ℕ) (m : Mem) → left ≡ 0 → Dimmed s t base left at m m at
 unfolding expr_at skip_node dim_one
 dim_zero s t base left at m e = rw e (record { place = refl; result = refl })
 
-pub dim_array : (s t : List ℕ) (base left at k : ℕ) (r : Range) (p : ℕ) (o : OptRange) (q n q1 q2 : ℕ) (m m1 m2 : Mem) → Head s left at k r p → k ≡ 7
+pub dim_array : (s t : List ℕ) (base left at k : ℕ) (r : Range) (p : ℕ) (o : Option Range) (q n q1 q2 : ℕ) (m m1 m2 : Mem) → Head s left at k r p → k ≡ 7
     → opt_of o ≡ opt_at s (range_at s) p → q ≡ next s p → PayloadAt s q n q1 → CompiledArgs s t base (left - 1) q1 n Every m m1 q2
     → m2 ≡ dim_node (mem_r t) t base (opt_of o) n m1 → Dimmed s t base left at m m2 q2
 unfolding expr_node dim_one skip_fields skip_field skip_times skip_pair skip_item skip_list expr_fields

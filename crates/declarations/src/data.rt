@@ -31,6 +31,7 @@ fn datum_length(text: &[u16], base: u32, r: Range, quoted: u32) -> u32
 }
 
 // A datum, and a note where it is above 255.
+#[tactic(auto, unfolding(rules::specs::Stmt::datum_node))]
 fn datum_node(
     text: &&[u16],
     notes: &mut [u32],
@@ -64,14 +65,12 @@ fn data_each(
     ensures { (l : List ℕ) → DataDone sheet.now.now text.now.now base at n (mem l notes.old book.old st.old) (mem l notes.new book.new st.new) result }
 {
     let mut p = at;
-    let mut more = n;
-    while 0 < more {
+    for _ in 0..n {
         let r = recorder::word::range_at(*sheet, p);
         let q = recorder::word::behind(*sheet, p);
         let quoted = recorder::word::payload_at(*sheet, q);
         datum_node(text, notes, book, st, base, r, quoted);
         p = recorder::word::behind(*sheet, q);
-        more -= 1;
     }
     p
 }

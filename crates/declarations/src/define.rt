@@ -7,7 +7,6 @@ ghost use Rattle.nodes.specs.Compiled.{opt_of};
 ghost use Rattle.expressions.specs.Body.{Body};
 ghost use Rattle.declarations.specs.Parts.{Defined};
 
-use nodes::node::OptRange;
 use recorder::codegen::St;
 use recorder::word::Range;
 use rules::types::Type;
@@ -60,8 +59,8 @@ fn def_node(
     base: u32,
     at: usize,
     left: usize,
-    o: OptRange,
-    a: OptRange,
+    o: Option<Range>,
+    a: Option<Range>,
     r: Range,
     name: u32,
     parameter: u32,
@@ -69,11 +68,11 @@ fn def_node(
     ensures { Defined sheet.now.now text.now.now base left at (opt_of o) (opt_of a) r name parameter (mem list.old notes.old book.old st.old) (mem list.new notes.new book.new st.new) result }
 {
     match o {
-        OptRange::Given(_) => match a {
-            OptRange::Given(_) => def_whole(
+        Some(_) => match a {
+            Some(_) => def_whole(
                 sheet, text, list, notes, book, st, base, at, left, r, name, parameter,
             ),
-            OptRange::Absent => expressions::expr::compile_typed(
+            None => expressions::expr::compile_typed(
                 sheet,
                 text,
                 list,
@@ -86,7 +85,7 @@ fn def_node(
                 Type::Real,
             ),
         },
-        OptRange::Absent => expressions::expr::compile_typed(
+        None => expressions::expr::compile_typed(
             sheet,
             text,
             list,

@@ -8,8 +8,8 @@ ghost use Rattle.nodes.specs.Compiled.{opt_of};
 ghost use Rattle.expressions.specs.Body.{Body};
 ghost use Rattle.declarations.specs.Parts.{Dimmed, DimDone};
 
-use nodes::node::OptRange;
 use recorder::codegen::St;
+use recorder::word::Range;
 use rules::tables::Wants;
 
 // An array's name behind its subscripts: call 28.
@@ -20,17 +20,17 @@ fn dim_node(
     book: &mut [u32],
     st: &mut St,
     base: u32,
-    o: OptRange,
+    o: Option<Range>,
     n: u32,
 )
     ensures { mem list.new notes.new book.new st.new ≡ dim_node (mem_r text.now.now) text.now.now base (opt_of o) n (mem list.old notes.old book.old st.old) }
 {
     match o {
-        OptRange::Given(nr) => {
+        Some(nr) => {
             let y = nodes::node::compile_sym(*text, notes, book, st, base, nr);
             recorder::codegen::emit_dim(list, st, nr, y.number, n)
         }
-        OptRange::Absent => {}
+        None => {}
     }
 }
 
@@ -72,8 +72,7 @@ fn dim_one(
         dim_node(text, list, notes, book, st, base, o, c.value);
         x
     } else {
-        let q = walk::stmt::skip_expr(*sheet, at, left);
-        q
+        walk::stmt::skip_expr(*sheet, at, left)
     }
 }
 
@@ -92,10 +91,8 @@ fn dim_each(
     ensures { DimDone sheet.now.now text.now.now base left at n (mem list.old notes.old book.old st.old) (mem list.new notes.new book.new st.new) result }
 {
     let mut p = at;
-    let mut more = n;
-    while 0 < more {
+    for _ in 0..n {
         p = dim_one(sheet, text, list, notes, book, st, base, p, left);
-        more -= 1;
     }
     p
 }

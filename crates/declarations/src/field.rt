@@ -25,8 +25,7 @@ fn field_each(
     ensures { FieldsDone sheet.now.now text.now.now base left at n (mem list.old notes.old book.old st.old) (mem list.new notes.new book.new st.new) result }
 {
     let mut p = at;
-    let mut more = n;
-    while 0 < more {
+    for _ in 0..n {
         let x = expressions::expr::compile_typed(
             sheet,
             text,
@@ -52,7 +51,6 @@ fn field_each(
             Type::String,
         );
         p = y;
-        more -= 1;
     }
     p
 }

@@ -18,7 +18,7 @@ use Rattle.rules.specs.declared.tables.Wants.{Wants}
 use Rattle.rules.specs.declared.tables.Wants.TheVariants.{Func, Every}
 use Rattle.rules.specs.Tables.{wanted_by}
 use Rattle.rules.specs.Expr.{out, compile_expr, compile_args, check_type, var_node, text_node, number_node, func_notes, func_node, opt_real_sym, user_call, binary_node, unary_node, index_node, index_place, var_place, compile_lvalue}
-use Rattle.nodes.specs.declared.node.OptRange.{OptRange}
+use Rattle.std.specs.Prelude.{Option}
 use Rattle.nodes.specs.Compiled.{named, opt_of, Compiled, CompiledArgs, CompiledTyped, CompiledPlace, PlaceTyped, OpAt, PayloadAt}
 use Rattle.expressions.proofs.Lists.{exprs_step, repeat_step}
 
@@ -101,7 +101,7 @@ at_func s t base left at k r p fr f q n q1 q2 m m1 m2 m3 ty h e o c f1 x f2 =
       result = rw (node s left at k r p h, e, ← o.place, ← o.kind, ← o.range, ← c.place, ← c.value, count_is, ← f1, ← x.result) f2;
     }
 
-pub at_user : (s t : List ℕ) (base left at k : ℕ) (r : Range) (p : ℕ) (o : OptRange) (q v q1 : ℕ) (ar : Range) (m m1 m2 m3 m4 : Mem) (ty : Ty) → Head s left at k r p → k ≡ 4
+pub at_user : (s t : List ℕ) (base left at k : ℕ) (r : Range) (p : ℕ) (o : Option Range) (q v q1 : ℕ) (ar : Range) (m m1 m2 m3 m4 : Mem) (ty : Ty) → Head s left at k r p → k ≡ 4
     → opt_of o ≡ opt_at s (range_at s) p → q ≡ next s p → named m1 v ≡ opt_real_sym (mem_r t) t base (opt_of o) m → Compiled s t base (left - 1) q m1 m2 q1 ty → ar ≡ range_at s (next s q)
     → m3 ≡ check_type (mem_r t) t base Real ar ty m2 → m4 ≡ user_call (mem_r t) t base (opt_of o) r v m3 → Compiled s t base left at m m4 q1 Real
 unfolding expr_node compile_expr skip_fields skip_field skip_times skip_pair skip_item expr_fields
@@ -128,7 +128,7 @@ at_unary s t base left at k r p or f q q1 ar m m1 m2 t1 ty h e o x ha f2 = recor
   result = rw (node s left at k r p h, e, ← o.place, ← o.kind, range_of_lem s (left - 1) q, ← ha, ← x.result) f2;
 }
 
-pub at_index : (s t : List ℕ) (base left at k : ℕ) (r : Range) (p : ℕ) (o : OptRange) (q n q1 q2 : ℕ) (m m1 m2 : Mem) (ty : Ty) → Head s left at k r p → k ≡ 7
+pub at_index : (s t : List ℕ) (base left at k : ℕ) (r : Range) (p : ℕ) (o : Option Range) (q n q1 q2 : ℕ) (m m1 m2 : Mem) (ty : Ty) → Head s left at k r p → k ≡ 7
     → opt_of o ≡ opt_at s (range_at s) p → q ≡ next s p → PayloadAt s q n q1 → CompiledArgs s t base (left - 1) q1 n Every m m1 q2
     → out m2 ty ≡ index_node (mem_r t) t base (opt_of o) r n m1 → Compiled s t base left at m m2 q2 ty
 unfolding expr_node compile_expr skip_fields skip_field skip_times skip_pair skip_item skip_list expr_fields
@@ -213,7 +213,7 @@ pub place_var : (s t : List ℕ) (base left at k : ℕ) (r : Range) (p : ℕ) (m
 unfolding expr_node compile_lvalue skip_fields expr_fields
 place_var s t base left at k r p m m1 ty h e f = record { place = rw (over s left at k r p h, e); result = rw (node s left at k r p h, e) f }
 
-pub place_index : (s t : List ℕ) (base left at k : ℕ) (r : Range) (p : ℕ) (o : OptRange) (q n q1 q2 : ℕ) (m m1 m2 : Mem) (ty : Ty) → Head s left at k r p → k ≡ 7
+pub place_index : (s t : List ℕ) (base left at k : ℕ) (r : Range) (p : ℕ) (o : Option Range) (q n q1 q2 : ℕ) (m m1 m2 : Mem) (ty : Ty) → Head s left at k r p → k ≡ 7
     → opt_of o ≡ opt_at s (range_at s) p → q ≡ next s p → PayloadAt s q n q1 → CompiledArgs s t base (left - 1) q1 n Every m m1 q2
     → out m2 ty ≡ index_place (mem_r t) t base (opt_of o) n m1 → CompiledPlace s t base left at m m2 q2 ty
 unfolding expr_node compile_lvalue skip_fields skip_field skip_times skip_pair skip_item skip_list expr_fields

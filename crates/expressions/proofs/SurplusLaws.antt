@@ -15,13 +15,6 @@ use Rattle.expressions.specs.Surplus.{surplus_note}
 use Rattle.expressions.proofs.Lists.{exprs_step}
 use Rattle.expressions.proofs.ExprLaws.{range_of_lem}
 
-pub surplus_noted : (t : List ℕ) (keep : ℕ) (r : Range) (m m1 : Mem) → keep ≡ 0 → m1 ≡ (mem_r t).note m 7 r 1 → m1 ≡ surplus_note t keep r m
-surplus_noted t keep r m m1 e p = rw (e, p)
-
-pub surplus_kept : (t : List ℕ) (keep : ℕ) (r : Range) (m : Mem) → (keep ≡ 0 → ⊥) → m ≡ surplus_note t keep r m
-surplus_kept t zero r m h = absurd (h refl)
-surplus_kept t (suc n) r m h = refl
-
 surplus_more : (t : List ℕ) (base keep : ℕ) (e : Expr) (es : Exprs) (m : Mem)
     → surplus_notes (mem_r t) t base keep (more e es) m ≡ surplus_notes (mem_r t) t base (keep - 1) es (surplus_note t keep (expr_range e) m)
 unfolding surplus_notes

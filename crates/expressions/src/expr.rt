@@ -220,16 +220,12 @@ pub fn compile_args(
     ensures { CompiledArgs sheet.now.now text.now.now base left at n wants (mem list.old notes.old book.old st.old) (mem list.new notes.new book.new st.new) result }
 {
     let mut p = at;
-    let mut i: u32 = 0;
-    let mut more = n;
-    while 0 < more {
+    for i in 0..n {
         let x = compile_expr(sheet, text, list, notes, book, st, base, p, left);
         let xt = x.ty;
-        let w = rules::tables::want(wants, i);
+        let w = wants.want(i);
         nodes::node::check_type(notes, st, w, node_range(*sheet, p), xt);
         p = x.at;
-        i += 1;
-        more -= 1;
     }
     p
 }
@@ -257,6 +253,7 @@ pub fn compile_typed(
 }
 
 // compile_lvalue: a place to store, which is a variable or an array's element; anything else makes nothing.
+#[tactic(auto, using(crate::proofs::ExprLaws::head, crate::proofs::ExprLaws::place_other))]
 pub fn compile_lvalue(
     sheet: &&[u32],
     text: &&[u16],

@@ -32,12 +32,10 @@ pub fn surplus_notes(
 {
     let mut p = at;
     let mut keep = max;
-    let mut more = n;
-    while 0 < more {
+    for _ in 0..n {
         let r = crate::expr::node_range(*sheet, p);
         surplus_note(notes, st, keep, r);
-        keep = rules::name::less_one(keep);
+        keep = keep.saturating_sub(1);
         p = walk::stmt::skip_expr(*sheet, p, left);
-        more -= 1;
     }
 }

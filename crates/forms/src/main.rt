@@ -1,75 +1,44 @@
 // Reads inputs in the replay format from standard input, back to back, and prints each one's refusal and place.
-// An input is six counts (words, units, list, notes, book, work), then the words and the units, little endian.
 #![tactic(auto)]
 
-use sheet::form::Checked;
+ghost use Rattle.std.specs.Prelude.{◌++◌, OnOk};
+ghost use Rattle.std.specs.Fmt.{decimal};
+ghost use Rattle.std.specs.Io.KnownBytes.{Appends};
+ghost use Rattle.feed.specs.Text.{line_of, next_text};
+
+use feed::Input;
 use std::io;
 use std::io::{BufReader, BufWriter, Write};
 
-fn show<W: Write>(out: &mut W, c: Checked) -> io::Result<()> {
-    feed::print_number(out, sheet::form::refusal_number(c))?;
-    feed::print_size(out, sheet::form::refusal_place(c))?;
-    feed::print(out, b"\n")
+// The number of a refusal, 0 for none, and its place, on a line.
+fn print_refusal<W: Write>(out: &mut W, number: u32, place: usize) -> io::Result<()>
+    ensures { OnOk result (Appends (W.contents out.old) (W.contents out.new)
+        (line_of (decimal number ++ next_text place))) }
+{
+    writeln!(out, "{number} {place}")
 }
 
-// The answer to what the arrays hold; they are one longer than what is accepted, so too much is told as such.
-fn answer<W: Write>(
-    out: &mut W,
-    words: &[u32],
-    units: &[u16],
-    n: u32,
-    u: u32,
-    work: u32,
-) -> io::Result<()> {
-    let a = feed::least(n, words.len());
-    let b = feed::least(u, units.len());
-    show(
-        out,
-        acceptance::check(&words[..a], &units[..b], work as usize),
-    )
+// Prints the answer to an input.
+fn answer<W: Write>(out: &mut W, input: Input<'_>) -> io::Result<()> {
+    match acceptance::check(input.words, input.units, input.counts.work as usize) {
+        Ok(()) => print_refusal(out, 0, 0),
+        Err(refusal) => print_refusal(out, refusal.number(), refusal.place()),
+    }
 }
 
-// Reads one input and answers it; false if the input ends before.
-fn one<R: io::Read, W: Write>(
-    input: &mut R,
-    out: &mut W,
-    words: &mut [u32],
-    units: &mut [u16],
-) -> io::Result<bool> {
-    let mut counts = [0u32; 6];
-    if !feed::read_words(input, &mut counts, 6)? {
-        return Ok(false);
-    }
-    if !feed::read_words(input, words, counts[0])? {
-        return Ok(false);
-    }
-    if !feed::read_units(input, units, counts[1])? {
-        return Ok(false);
-    }
-    answer(out, words, units, counts[0], counts[1], counts[5])?;
-    Ok(true)
-}
-
-// Nothing says that the input ends, so the turns are counted up to a number that no run uses up.
-fn run<R: io::Read, W: Write>(
-    input: &mut R,
-    out: &mut W,
-    words: &mut [u32],
-    units: &mut [u16],
-) -> io::Result<()> {
-    for _ in 0..u64::MAX {
-        if !one(input, out, words, units)? {
-            break;
-        }
-    }
-    Ok(())
-}
-
+// The arrays are one longer than what is accepted, so too much is told as such. Nothing says that the input ends, so the turns are
+// counted up to a number that no run uses up.
 fn main(rt: HostRuntime) -> io::Result<()> {
     let mut words = [0u32; 65537];
     let mut units = [0u16; 65537];
     let mut input = BufReader::new(rt.alloc(), rt.reader())?;
     let mut out = BufWriter::new(rt.alloc(), io::writer(&rt))?;
-    run(&mut input, &mut out, &mut words, &mut units)?;
+    for _ in 0..u64::MAX {
+        let next = Input::read(&mut input, &mut words, &mut units);
+        let Some(next) = feed::unless_ended(next)? else {
+            break;
+        };
+        answer(&mut out, next)?;
+    }
     out.flush()
 }

@@ -18,12 +18,8 @@ pub extern "C" fn hollupsa_compile(
 )
     ensures { Leaves (outcome sheet.now text.now (lengths (length list.old) (length notes.old) (length book.old) (length work.old))) answer.new list.new notes.new book.new work.new }
 {
-    let r = compiler::compile(sheet, text, list, notes, book, work);
-    *answer = [
-        r.refusal as usize,
-        r.place,
-        r.records as usize,
-        r.notes,
-        r.entries,
-    ];
+    *answer = match compiler::compile(sheet, text, list, notes, book, work) {
+        Ok(sizes) => [0, 0, sizes.records as usize, sizes.notes, sizes.entries],
+        Err(refusal) => [refusal.number() as usize, refusal.place(), 0, 0, 0],
+    };
 }

@@ -1,7 +1,7 @@
 -- INPUT: one law for each way out.
 use mathlib.Core.Path.{◌≡◌, refl, sym as inv, ap, ◌∙◌}
 use mathlib.Core.List.{List}
-use mathlib.Core.Bool.{Bool, true, false}
+use mathlib.Core.Bool.{Bool, false}
 use Prim.Native.Nat.{ℕ, zero, suc, ◌-◌, ◌≤◌, ◌<◌}
 use lib.Dec.{eqb}
 use borrow.Author.Tests.{ne_eqb}
@@ -13,14 +13,12 @@ use Rattle.sheet.specs.declared.form.Item.TheVariants.{Source as source}
 use Rattle.sheet.specs.declared.form.Sort.TheVariants.{Expr as exprSort, InputPlace as inputSort}
 use Rattle.sheet.specs.declared.form.Shape.TheVariants.{Input}
 use Rattle.sheet.specs.Skip.{skip_node, skip_repeat, skip_list, skip_fields, skip_field, skip_times, skip_pair, skip_item}
-use Rattle.sheet.specs.Tree.{Opt, Expr, Stmt, expr_range, count, expr_at, expr_node, exprs_at, opt_at, stmt_node, source_of, args_at}
+use Rattle.sheet.specs.Tree.{Expr, Stmt, expr_range, count, expr_at, expr_node, exprs_at, opt_at, stmt_node, source_of, args_at}
 use Rattle.rules.specs.declared.types.«Type».{«Type» as Ty}
-use Rattle.rules.specs.declared.types.«Type».TheVariants.{Real}
-use Rattle.rules.specs.Expr.{real_sym, opt_real_sym, text_node, compile_lvalue}
+use Rattle.rules.specs.Expr.{opt_real_sym, compile_lvalue}
 use Rattle.rules.specs.Stmt.{compile_stmt, is_ident, is_file, input_arg_by, fn_place, input_fn, fn_input, input_var, input_vars, input_source, compile_input}
-use Rattle.nodes.specs.declared.node.OptRange.{OptRange}
-use Rattle.nodes.specs.declared.node.OptRange.TheVariants.{Given, Absent}
-use Rattle.nodes.specs.Compiled.{named, opt_of, CompiledTyped, CompiledPlace, PayloadAt}
+use Rattle.std.specs.Prelude.{Option}
+use Rattle.nodes.specs.Compiled.{named, opt_of, CompiledPlace, PayloadAt}
 use Rattle.expressions.specs.Body.{Body}
 use Rattle.expressions.proofs.Lists.{exprs_step, input_same, repeat_same, exprs_same}
 use Rattle.expressions.proofs.ExprLaws.{Head, node, range_of_lem, how_many_lem}
@@ -50,25 +48,7 @@ ident_there s left at k d e =
     rw (node s left at k (range_at s (next s at)) (next s (next s at)) (record { deep = d; kind = e; range = refl; behind = refl }))
     (ident_case s (expr_at s (left - 1)) (skip_node s (left - 1) exprSort) k (range_at s (next s at)) (next s (next s at)))
 
-pub arg_ident : (t : List ℕ) (base : ℕ) (b : Bool) (r : Range) (e : Expr) (m m1 : Mem) (v : ℕ) → b ≡ true → named m1 v ≡ real_sym (mem_r t) t base r m → expr_range e ≡ r
-    → named m1 v ≡ input_arg_by (mem_r t) t base b e m
-arg_ident t base b r e m m1 v h p he = rw (h, he) p
-
-pub arg_other : (t : List ℕ) (base : ℕ) (b : Bool) (r : Range) (e : Expr) (m m1 : Mem) → b ≡ false → m1 ≡ (mem_r t).note m 12 r 1 → expr_range e ≡ r
-    → named m1 0 ≡ input_arg_by (mem_r t) t base b e m
-arg_other t base b r e m m1 h p he = rw (h, he, p)
-
-pub fn_stored : (t : List ℕ) (base : ℕ) (o : OptRange) (b : Bool) (v r : Range) (n a : ℕ) (m m1 : Mem) → o ≡ Given v → b ≡ true → m1 ≡ (mem_r t).emit m 9 r n a 0
-    → m1 ≡ fn_place (mem_r t) t base (opt_of o) b r n a m
-fn_stored t base o b v r n a m m1 h g p = rw (h, g, p)
-
-pub fn_argless : (t : List ℕ) (base : ℕ) (o : OptRange) (b : Bool) (v r : Range) (n a : ℕ) (m : Mem) → o ≡ Given v → b ≡ false → m ≡ fn_place (mem_r t) t base (opt_of o) b r n a m
-fn_argless t base o b v r n a m h g = rw (h, g)
-
-pub fn_nameless : (t : List ℕ) (base : ℕ) (o : OptRange) (b : Bool) (r : Range) (n a : ℕ) (m : Mem) → o ≡ Absent → m ≡ fn_place (mem_r t) t base (opt_of o) b r n a m
-fn_nameless t base o b r n a m h = rw h
-
-pub input_fn_of : (s t : List ℕ) (base left at : ℕ) (r : Range) (o : OptRange) (q x y : ℕ) (b : Bool) (ar : Range) (m m1 m2 m3 : Mem) → opt_of o ≡ opt_at s (range_at s) at → q ≡ next s at
+pub input_fn_of : (s t : List ℕ) (base left at : ℕ) (r : Range) (o : Option Range) (q x y : ℕ) (b : Bool) (ar : Range) (m m1 m2 m3 : Mem) → opt_of o ≡ opt_at s (range_at s) at → q ≡ next s at
     → named m1 x ≡ opt_real_sym (mem_r t) t base (opt_of o) m → b ≡ is_ident (expr_at s left q) → ar ≡ range_at s (next s q)
     → ((e : Expr) → expr_range e ≡ ar → named m2 y ≡ input_arg_by (mem_r t) t base b e m1) → m3 ≡ fn_place (mem_r t) t base (opt_of o) b r x y m2
     → m3 ≡ input_fn (mem_r t) t base r (opt_at s (range_at s) at) (expr_at s left (next s at)) m
@@ -76,12 +56,6 @@ input_fn_of s t base left at r o q x y b ar m m1 m2 m3 ho hq hx hb ha hy e =
     let range_is : expr_range (expr_at s left q) ≡ ar = range_of_lem s left q ∙ inv ha in
     let arg : named m2 y ≡ input_arg_by (mem_r t) t base b (expr_at s left q) m1 = hy (expr_at s left q) range_is in
     rw (← ho, ← hq, ← hx, ← hb, ← arg) e
-
-pub fn_from_file : (t : List ℕ) (base : ℕ) (b : Bool) (r : Range) (f : Opt Range) (e : Expr) (m m1 : Mem) → b ≡ true → m1 ≡ (mem_r t).note m 12 r 1 → m1 ≡ fn_input (mem_r t) t base b r f e m
-fn_from_file t base b r f e m m1 h p = rw (h, p)
-
-pub fn_from_keys : (t : List ℕ) (base : ℕ) (b : Bool) (r : Range) (f : Opt Range) (e : Expr) (m m1 : Mem) → b ≡ false → m1 ≡ input_fn (mem_r t) t base r f e m → m1 ≡ fn_input (mem_r t) t base b r f e m
-fn_from_keys t base b r f e m m1 h p = rw h p
 
 pub taken_zero : (s t : List ℕ) (base left at : ℕ) (b : Bool) (m : Mem) → left ≡ 0 → Taken s t base left at b m m at
 unfolding expr_at skip_node input_var compile_lvalue
@@ -138,30 +112,8 @@ two_more zero a b = absurd (a refl)
 two_more (suc zero) a b = absurd (b refl)
 two_more (suc (suc k)) a b = omega arith
 
-third : (s : List ℕ) (at k : ℕ) → k ≡ payload_at s at → (k ≡ 0 → ⊥) → (k ≡ 1 → ⊥) → payload_at s at ≡ suc (suc (k - 2))
+pub third : (s : List ℕ) (at k : ℕ) → k ≡ payload_at s at → (k ≡ 0 → ⊥) → (k ≡ 1 → ⊥) → payload_at s at ≡ suc (suc (k - 2))
 third s at k e a b = inv e ∙ two_more k a b
-
-pub file_keys : (s : List ℕ) (at k : ℕ) → k ≡ payload_at s at → k ≡ 0 → (left : ℕ) (child : ℕ → Stmt) → false ≡ is_file (source_of s left child (payload_at s at) (next s at))
-file_keys s at k e h left child = let f : payload_at s at ≡ 0 = inv e ∙ h in rw f
-
-pub file_prompt : (s : List ℕ) (at k : ℕ) → k ≡ payload_at s at → k ≡ 1 → (left : ℕ) (child : ℕ → Stmt) → false ≡ is_file (source_of s left child (payload_at s at) (next s at))
-file_prompt s at k e h left child = let f : payload_at s at ≡ 1 = inv e ∙ h in rw f
-
-pub file_there : (s : List ℕ) (at k : ℕ) → k ≡ payload_at s at → (k ≡ 0 → ⊥) → (k ≡ 1 → ⊥) → (left : ℕ) (child : ℕ → Stmt)
-    → true ≡ is_file (source_of s left child (payload_at s at) (next s at))
-file_there s at k e a b left child = let f : payload_at s at ≡ suc (suc (k - 2)) = third s at k e a b in rw f
-
-pub source_keys : (s t : List ℕ) (base left at k n : ℕ) (r : Range) (m m1 : Mem) (child : ℕ → Stmt) → k ≡ payload_at s at → k ≡ 0 → m1 ≡ (mem_r t).emit m 32 r 0 n 0
-    → m1 ≡ input_source (mem_r t) t base r n (source_of s left child (payload_at s at) (next s at)) m
-source_keys s t base left at k n r m m1 child e h p = let f : payload_at s at ≡ 0 = inv e ∙ h in rw (f, p)
-
-pub source_prompt : (s t : List ℕ) (base left at k p n : ℕ) (r pr : Range) (m m1 m2 : Mem) (child : ℕ → Stmt) → k ≡ payload_at s at → p ≡ next s at → k ≡ 1 → pr ≡ range_at s p
-    → m1 ≡ text_node (mem_r t) t base pr m → m2 ≡ (mem_r t).emit m1 32 r 1 n 0 → m2 ≡ input_source (mem_r t) t base r n (source_of s left child (payload_at s at) (next s at)) m
-source_prompt s t base left at k p n r pr m m1 m2 child e hp h hr h1 h2 = let f : payload_at s at ≡ 1 = inv e ∙ h in rw (f, ← hp, ← hr, ← h1) h2
-
-pub source_file : (s t : List ℕ) (base left at k p q n : ℕ) (r : Range) (m m1 m2 : Mem) (child : ℕ → Stmt) → k ≡ payload_at s at → p ≡ next s at → (k ≡ 0 → ⊥) → (k ≡ 1 → ⊥)
-    → CompiledTyped s t base left p Real m m1 q → m2 ≡ (mem_r t).emit m1 33 r n 0 0 → m2 ≡ input_source (mem_r t) t base r n (source_of s left child (payload_at s at) (next s at)) m
-source_file s t base left at k p q n r m m1 m2 child e hp a b x h2 = let f : payload_at s at ≡ suc (suc (k - 2)) = third s at k e a b in rw (f, ← hp, ← x.result) h2
 
 pub at_input : (s t : List ℕ) (base left k at : ℕ) (r : Range) (q n p p1 : ℕ) (b : Bool) (m m1 m2 : Mem) → q ≡ skip_item s (skip_node s left) source at
     → ((child : ℕ → Stmt) → b ≡ is_file (source_of s left child (payload_at s at) (next s at))) → PayloadAt s q n p → TakenAll s t base left p n b m m1 p1

@@ -9,20 +9,16 @@ ghost use Rattle.nodes.specs.Compiled.{named, opt_of};
 ghost use Rattle.expressions.specs.Body.{Body};
 ghost use Rattle.inputs.specs.Parts.{Taken, TakenAll};
 
-use nodes::node::OptRange;
 use recorder::codegen::St;
 use recorder::word::Range;
 use rules::types::Type;
 
 // Whether the expression at a place is a variable.
+#[tactic(auto, using(crate::proofs::InputLaws::ident_zero, crate::proofs::InputLaws::ident_there))]
 fn is_ident(sheet: &[u32], at: usize, left: usize) -> bool
     ensures { result ≡ is_ident (expr_at sheet.now left at) }
 {
-    if left == 0 {
-        false
-    } else {
-        recorder::word::payload_at(sheet, at) == 0
-    }
+    left != 0 && recorder::word::payload_at(sheet, at) == 0
 }
 
 // A function's argument, which must be a variable: else class 12.
@@ -46,16 +42,16 @@ fn input_arg(
 }
 
 // A function of a variable to store to: call 9.
-fn fn_place(list: &mut [u32], st: &mut St, o: OptRange, ident: bool, r: Range, n: u32, a: u32)
+fn fn_place(list: &mut [u32], st: &mut St, o: Option<Range>, ident: bool, r: Range, n: u32, a: u32)
     ensures { (t k b : List ℕ) (base : ℕ) → mem list.new k b st.new ≡ fn_place (mem_r t) t base (opt_of o) ident r n a (mem list.old k b st.old) }
 {
     match o {
-        OptRange::Given(_) => {
+        Some(_) => {
             if ident {
                 recorder::codegen::emit_fn_lvalue(list, st, r, n, a)
             }
         }
-        OptRange::Absent => {}
+        None => {}
     }
 }
 
@@ -140,8 +136,7 @@ fn input_var(
             r,
             file,
         );
-        let q = walk::stmt::skip_expr(*sheet, at, left);
-        q
+        walk::stmt::skip_expr(*sheet, at, left)
     } else {
         let x = expressions::expr::compile_lvalue(
             sheet, text, list, notes, book, st, base, at, left,
@@ -166,15 +161,14 @@ fn input_vars(
     ensures { TakenAll sheet.now.now text.now.now base left at n file (mem list.old notes.old book.old st.old) (mem list.new notes.new book.new st.new) result }
 {
     let mut p = at;
-    let mut more = n;
-    while 0 < more {
+    for _ in 0..n {
         p = input_var(sheet, text, list, notes, book, st, base, p, left, file);
-        more -= 1;
     }
     p
 }
 
 // The keyboard's call 32, behind a prompt that may be there, or a file's call 33 behind its number.
+#[tactic(auto, using(crate::proofs::InputLaws::third))]
 fn input_source(
     sheet: &&[u32],
     text: &&[u16],
@@ -221,8 +215,7 @@ fn is_file(sheet: &[u32], at: usize) -> bool
     ensures { (left : ℕ) (child : ℕ → Stmt) → result ≡ is_file (source_of sheet.now left child (payload_at sheet.now at) (next sheet.now at)) }
 {
     match recorder::word::payload_at(sheet, at) {
-        0 => false,
-        1 => false,
+        0 | 1 => false,
         _ => true,
     }
 }

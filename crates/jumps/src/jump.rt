@@ -16,29 +16,15 @@ use recorder::word::Range;
 use rules::types::Type;
 use sheet::form::Shape;
 
-// A label and its range, which may be absent.
-#[derive(Clone, Copy)]
-pub enum OptTarget {
-    Given(Range, Label),
-    Absent,
-}
-
-// A label that may be absent.
-#[derive(Clone, Copy)]
-pub enum OptLabel {
-    Given(Label),
-    Absent,
-}
-
-pub fn target_at(sheet: &[u32], at: usize) -> OptTarget
+pub fn target_at(sheet: &[u32], at: usize) -> Option<(Range, Label)>
     ensures { target_of result ≡ opt_at sheet.now (target_at sheet.now) at }
 {
     if sheet::leaf::is_absent(sheet, at) {
-        OptTarget::Absent
+        None
     } else {
         let r = recorder::word::range_at(sheet, at);
         let l = recorder::label::label_at(sheet, recorder::word::behind(sheet, at));
-        OptTarget::Given(r, l)
+        Some((r, l))
     }
 }
 
@@ -53,13 +39,13 @@ pub fn behind_target(sheet: &[u32], at: usize) -> usize
     }
 }
 
-fn opt_label_at(sheet: &[u32], at: usize) -> OptLabel
+fn opt_label_at(sheet: &[u32], at: usize) -> Option<Label>
     ensures { label_of result ≡ opt_at sheet.now (label_at sheet.now) at }
 {
     if sheet::leaf::is_absent(sheet, at) {
-        OptLabel::Absent
+        None
     } else {
-        OptLabel::Given(recorder::label::label_at(sheet, at))
+        Some(recorder::label::label_at(sheet, at))
     }
 }
 
@@ -84,16 +70,16 @@ fn pending_jump(list: &mut [u32], st: &mut St, sub: u32, r: Range, l: Label, lr:
 }
 
 // An absent label is label 0, and a note on it has the statement's range.
-fn compile_go(list: &mut [u32], st: &mut St, r: Range, sub: u32, o: OptTarget)
+fn compile_go(list: &mut [u32], st: &mut St, r: Range, sub: u32, o: Option<(Range, Label)>)
     ensures { (t n b : List ℕ) (base : ℕ) → mem list.new n b st.new ≡ compile_go (mem_r t) t base r sub (target_of o) (mem list.old n b st.old) }
 {
-    let OptTarget::Given(lr, l) = o else {
-        pending_jump(list, st, sub, r, Label(0), r);
-        return;
-    };
-    pending_jump(list, st, sub, r, l, lr)
+    match o {
+        Some((lr, l)) => pending_jump(list, st, sub, r, l, lr),
+        None => pending_jump(list, st, sub, r, Label(0), r),
+    }
 }
 
+#[tactic(auto, unfolding(sheet::specs::Tree::stmt_node, rules::specs::Stmt::compile_stmt, sheet::specs::Skip::skip_fields, sheet::specs::Skip::skip_field, sheet::specs::Skip::skip_times, sheet::specs::Skip::skip_pair, sheet::specs::Skip::skip_item))]
 pub fn compile_gosub(sheet: &&[u32], list: &mut [u32], st: &mut St, at: usize, r: Range) -> usize
     ensures { (t n b : List ℕ) (base left k : ℕ) → Body sheet.now.now t base left Shape.GoSub k r at (mem list.old n b st.old) (mem list.new n b st.new) result }
 {
@@ -103,6 +89,7 @@ pub fn compile_gosub(sheet: &&[u32], list: &mut [u32], st: &mut St, at: usize, r
 }
 
 // Behind its flag, which says whether the word GOTO stands there.
+#[tactic(auto, unfolding(sheet::specs::Tree::stmt_node, rules::specs::Stmt::compile_stmt, sheet::specs::Skip::skip_fields, sheet::specs::Skip::skip_field, sheet::specs::Skip::skip_times, sheet::specs::Skip::skip_pair, sheet::specs::Skip::skip_item))]
 pub fn compile_goto(sheet: &&[u32], list: &mut [u32], st: &mut St, at: usize, r: Range) -> usize
     ensures { (t n b : List ℕ) (base left k : ℕ) → Body sheet.now.now t base left Shape.GoTo k r at (mem list.old n b st.old) (mem list.new n b st.new) result }
 {
@@ -112,16 +99,17 @@ pub fn compile_goto(sheet: &&[u32], list: &mut [u32], st: &mut St, at: usize, r:
     behind_target(*sheet, p)
 }
 
-fn restore_node(list: &mut [u32], st: &mut St, r: Range, o: OptTarget)
+fn restore_node(list: &mut [u32], st: &mut St, r: Range, o: Option<(Range, Label)>)
     ensures { (t n b : List ℕ) (base : ℕ) → mem list.new n b st.new ≡ compile_restore (mem_r t) t base r (target_of o) (mem list.old n b st.old) }
 {
-    let OptTarget::Given(lr, l) = o else {
-        recorder::codegen::emit_restore(list, st, r, 0, 0);
-        return;
-    };
-    let w = packed(lr);
-    let v = (l.0 as u32) + 1;
-    recorder::codegen::emit_restore(list, st, r, v, w)
+    match o {
+        Some((lr, l)) => {
+            let w = packed(lr);
+            let v = (l.0 as u32) + 1;
+            recorder::codegen::emit_restore(list, st, r, v, w)
+        }
+        None => recorder::codegen::emit_restore(list, st, r, 0, 0),
+    }
 }
 
 pub fn compile_restore(sheet: &&[u32], list: &mut [u32], st: &mut St, at: usize, r: Range) -> usize
@@ -132,13 +120,10 @@ pub fn compile_restore(sheet: &&[u32], list: &mut [u32], st: &mut St, at: usize,
     behind_target(*sheet, at)
 }
 
-fn on_jump(list: &mut [u32], st: &mut St, sub: u32, r: Range, o: OptLabel)
+fn on_jump(list: &mut [u32], st: &mut St, sub: u32, r: Range, o: Option<Label>)
     ensures { (t n b : List ℕ) (base : ℕ) → mem list.new n b st.new ≡ pending_jump (mem_r t) t base sub r (label_or0 (label_of o)) r (mem list.old n b st.old) }
 {
-    let OptLabel::Given(l) = o else {
-        pending_jump(list, st, sub, r, Label(0), r);
-        return;
-    };
+    let l = o.unwrap_or(Label(0));
     pending_jump(list, st, sub, r, l, r)
 }
 
@@ -147,14 +132,12 @@ fn on_jumps(sheet: &&[u32], list: &mut [u32], st: &mut St, at: usize, n: u32, su
     ensures { (t o b : List ℕ) (base : ℕ) → mem list.new o b st.new ≡ on_jumps (mem_r t) t base sub (on_targets_at sheet.now.now n at) (mem list.old o b st.old) }
 {
     let mut p = at;
-    let mut more = n;
-    while 0 < more {
+    for _ in 0..n {
         let r = recorder::word::range_at(*sheet, p);
         let q = recorder::word::behind(*sheet, p);
         let o = opt_label_at(*sheet, q);
         on_jump(list, st, sub, r, o);
         p = recorder::word::behind(*sheet, q);
-        more -= 1;
     }
 }
 
@@ -163,16 +146,15 @@ fn behind_targets(sheet: &[u32], at: usize, n: u32) -> usize
     ensures { result ≡ skip_repeat sheet.now (two_on sheet.now) n at }
 {
     let mut p = at;
-    let mut more = n;
-    while 0 < more {
+    for _ in 0..n {
         let q = recorder::word::behind(sheet, p);
         p = recorder::word::behind(sheet, q);
-        more -= 1;
     }
     p
 }
 
 // The targets stand before the flag that says whether they are GOSUB's.
+#[tactic(auto, unfolding(sheet::specs::Tree::stmt_node, rules::specs::Stmt::compile_stmt, sheet::specs::Skip::skip_fields, sheet::specs::Skip::skip_field, sheet::specs::Skip::skip_times, sheet::specs::Skip::skip_pair, sheet::specs::Skip::skip_item, rules::specs::Stmt::compile_on, sheet::specs::Skip::skip_list), using(expressions::proofs::Lists::items_length))]
 pub fn compile_on(
     sheet: &&[u32],
     text: &&[u16],

@@ -1,21 +1,24 @@
 -- The laws of the searches for labels, a law for each way out.
 use mathlib.Core.Path.{◌≡◌, refl, sym, ap, ◌∙◌}
 use mathlib.Core.List.{List}
-use Prim.Native.Nat.{ℕ, zero, suc, ◌+◌, ◌*◌, ◌-◌, ◌/◌, ◌%◌, ◌≤◌, ◌<◌, min}
+use mathlib.Core.Bool.{Bool, true, false}
+use Rattle.std.proofs.Common.{add-zero}
+use lib.Dec.{eqb}
+use borrow.Author.Tests.{eqb-true, eqb-false}
+use Prim.Native.Nat.{ℕ, suc, ◌+◌, ◌*◌, ◌-◌, ◌/◌, ◌%◌, ◌≤◌, ◌<◌, min}
 use lib.ListN.{length, get_or, set, take}
-use native.Mathlib.Numerals.{sub-one}
-use native.Mathlib.Nat.{mod-lt}
 use native.Mathlib.Omega.{arith}
-use Rattle.labels.specs.declared.marks.Target.TheVariants.{At, Nowhere}
-use Rattle.labels.specs.declared.marks.Start.TheVariants.{From, NoData}
-use Rattle.recorder.specs.Ideal.{Search, found}
-use Rattle.recorder.specs.Marks.{Mark, addr_of, datum_from, data_of}
+use Rattle.std.specs.Prelude.{Option, None, Some}
+use Rattle.std.specs.Option.{SomeIff, option_or}
+use Rattle.recorder.specs.declared.label.DatumIndex.{DatumIndex}
+use Rattle.recorder.specs.Ideal.{Search, missing, found}
+use Rattle.recorder.specs.Marks.{Mark, or_else, addr_of, data_of}
 use Rattle.labels.specs.MarkWords.{target_found, start_found}
 use Rattle.labels.specs.MarksIn.{MarksIn}
-use Rattle.labels.specs.Chains.{line_of, label_of, last_in, Chained, earlier_datum}
-use Rattle.labels.proofs.MarkSearch.{chain_start, chain_step, last_within, or_missing, data_or, addrs, addrs_skip, data_skip, Seeking, seek_head, seek_link, word_label, word_link, addr_here, addr_past, data_past}
+use Rattle.labels.specs.Chains.{line_of, label_of, last_in, Chained, plus_one}
+use Rattle.labels.proofs.MarkSearch.{chain_start, chain_step, last_within, or_missing, data_or, datum_here, addrs, addrs_skip, data_skip, Seeking, seek_head, seek_link, word_label, word_link, addr_here, addr_past, data_past}
 
--- the chains: none yet, one line more, all
+-- the chains: none yet, one line more
 module _ (w : List ℕ) (n m : ℕ) (e : m ≡ min n (length w / 3)) where
   lines_all : (ms : List Mark) → MarksIn w n ms → m ≡ n
   lines_all ms k = omega (arith, e, k.room)
@@ -27,89 +30,86 @@ module _ (w : List ℕ) (n m : ℕ) (e : m ≡ min n (length w / 3)) where
       → Chained (set (set w' (3 * j) (get_or w' (3 * j) 0 % 65536 + 65536 * (get_or w' (3 * m + get_or w' (3 * j) 0 % 65536 % h) 0 % 65536))) (3 * m + get_or w' (3 * j) 0 % 65536 % h) (j % 65536 + 1)) m h (j + 1) ms
   index_step w' h j ms i k c = chain_step w' m h j ms c i (omega (arith, lines_all ms k, k.few)) _ _ refl refl
 
-  pub index_none : (h f : ℕ) (ms : List Mark) → h ≡ min f (length w - 3 * m) → h ≡ 0 → 0 < f → MarksIn w n ms → Chained w n h n ms
-  index_none h f ms i d p k = absurd (omega (arith, lines_all ms k, k.room))
+-- a number less 1, if it is one at least
+pub less_one : (o : Option ℕ) (x : ℕ) → SomeIff o (1 ≤ x) (x - 1) → plus_one o ≡ x
+less_one None x h = omega (arith, h)
+less_one (Some k) x h = omega (arith, h.0, h.1)
 
-  pub index_end : (w' : List ℕ) (h j : ℕ) (ms : List Mark) → j ≤ m → m ≤ j → MarksIn w n ms → Chained w' m h j ms → Chained w' n h n ms
-  index_end w' h j ms a b k c =
-      let p : j ≡ n = omega (arith, lines_all ms k) in
-      rw (lines_all ms k, p) at c
+-- the words of a line in its chain
+module _ (w : List ℕ) (n h : ℕ) (ms : List Mark) (c : Chained w n h n ms) (k : ℕ) (i : k < n) (x : ℕ) (e : x ≡ get_or w (3 * k + 0) 0) where
+  inside : k < length ms
+  inside = omega (arith, c.count)
 
--- the head
-pub head_is : (w : List ℕ) (n m l h x : ℕ) (ms : List Mark) → m ≡ min n (length w / 3) → x ≡ get_or w (3 * m + l % h) 0 → Chained w n h n ms → x ≡ last_in h ms (l % h) n
-head_is w n m l h x ms e f c =
-    let i : m ≡ n = omega (arith, c.room) in
-    rw i at f ∙ c.heads (l % h) (mod-lt l c.some)
+  pub label_is : x % 65536 ≡ label_of ms k
+  label_is = rw (e, add-zero) (word_label w n h ms c k inside)
 
-pub chain_place : (w : List ℕ) (n m l h : ℕ) → (h ≡ 0 → ⊥) → m ≡ min n (length w / 3) → h ≤ length w - 3 * m → 3 * m + l % h < length w
-chain_place w n m l h d e f = omega (arith, mod-lt l {m = h} (omega arith))
+  pub link_is : x / 65536 ≡ last_in h ms (label_of ms k % h) k
+  link_is = rw (e, add-zero) (word_link w n h ms c k inside)
 
--- a line of the chain
-module _ (w : List ℕ) (n h : ℕ) (ms : List Mark) (c : Chained w n h n ms) (l p : ℕ) (i : 0 < p) where
-  before : p ≡ suc (p - 1)
-  before = omega arith
+  pub link_low : k < x / 65536 → ⊥
+  link_low g = omega (arith, link_is, last_within h ms (label_of ms k % h) k)
 
-  module _ (f : List Mark → Search) (o : Search) (s : Seeking f l h ms p o) where
-    inside : p - 1 < length ms
-    inside = omega (arith, s.within)
+-- on the way down a chain: the line k comes next
+module _ (w : List ℕ) (n h l : ℕ) (ms : List Mark) (c : Chained w n h n ms) where
+  on_way : (f : List Mark → Search) (p k : ℕ) (o : Search) → p ≡ suc k → Seeking f l h ms p o → k < n
+  on_way f p k o e s = omega (arith, s.within, c.count)
 
-    link_is : (u : ℕ) → u ≡ get_or w (3 * (p - 1)) 0 → u / 65536 ≡ last_in h ms (label_of ms (p - 1) % h) (p - 1)
-    link_is u e = rw e (word_link w n h ms c (p - 1) inside)
+  abbrev pub Aiming : ℕ → Type 0
+  Aiming p = Seeking (addrs l) l h ms p (addr_of ms l)
 
-    pub link_low : (u : ℕ) → u ≡ get_or w (3 * (p - 1)) 0 → p ≤ u / 65536 → ⊥
-    link_low u e g = omega (arith, link_is u e, last_within h ms (label_of ms (p - 1) % h) (p - 1))
+  pub target_start : (p : ℕ) → p ≡ last_in h ms (l % h) n → Aiming p
+  target_start p e = seek_head (addrs l) l h ms (addrs_skip l) p n (addr_of ms l) c.count e refl
 
-  -- its label is another
-  pub target_link : (u : ℕ) → u ≡ get_or w (3 * (p - 1)) 0 → (u % 65536 ≡ l → ⊥) → Seeking (addrs l) l h ms p (addr_of ms l) → Seeking (addrs l) l h ms (u / 65536) (addr_of ms l)
-  target_link u e d s =
-      let y : u % 65536 ≡ label_of ms (p - 1) = rw e (word_label w n h ms c (p - 1) (inside (addrs l) _ s)) in
-      seek_link (addrs l) l h ms (addrs_skip l) (addrs l) p (p - 1) (u / 65536) (addr_of ms l) s before (link_is (addrs l) _ s u e)
-      (addr_past ms l (p - 1) (inside (addrs l) _ s) (λ z. d (y ∙ z)))
+  pub target_none : (p : ℕ) → p ≡ 0 → Aiming p → None ≡ target_found (addr_of ms l)
+  unfolding addr_of
+  target_none p e s = ap target_found (ap (λ (x : ℕ). addrs l (take x ms)) (sym e) ∙ s.rest)
 
-  pub target_here : (u v : ℕ) → u ≡ get_or w (3 * (p - 1)) 0 → u % 65536 ≡ l → v ≡ get_or w (3 * (p - 1) + 1) 0 → Seeking (addrs l) l h ms p (addr_of ms l)
-      → At (record { 0 = v }) ≡ target_found (addr_of ms l)
-  target_here u v e g a s =
-      let y : label_of ms (p - 1) ≡ l = sym (word_label w n h ms c (p - 1) (inside (addrs l) _ s)) ∙ ap (λ (z : ℕ). z % 65536) (sym e) ∙ g in
-      let z : v ≡ (line_of ms (p - 1)).addr = a ∙ c.addr (p - 1) (omega (arith, c.count, inside (addrs l) _ s)) in
-      let q : found (line_of ms (p - 1)).addr ≡ addr_of ms l = sym (addr_here ms l (p - 1) (inside (addrs l) _ s) y) ∙ ap (λ (x : ℕ). addrs l (take x ms)) (sym before) ∙ s.rest in
-      ap (λ (x : ℕ). target_found (found x)) z ∙ ap target_found q
+  module _ (p k : ℕ) (b : Bool) (e : p ≡ suc k) (d : k < n → b ≡ eqb (label_of ms k) l) (s : Aiming p) where
+    here : k < n
+    here = on_way (addrs l) p k (addr_of ms l) e s
 
-  pub target_low : (u : ℕ) → u ≡ get_or w (3 * (p - 1)) 0 → p ≤ u / 65536 → Seeking (addrs l) l h ms p (addr_of ms l) → Nowhere ≡ target_found (addr_of ms l)
-  target_low u e g s = absurd (link_low (addrs l) _ s u e g)
+    -- its label is another
+    pub target_link : (q : ℕ) → b ≡ false → (k < n → q ≡ last_in h ms (label_of ms k % h) k) → Aiming q
+    target_link q t g =
+        seek_link (addrs l) l h ms (addrs_skip l) (addrs l) p k q (addr_of ms l) s e (g here)
+        (addr_past ms l k (omega (arith, c.count, here)) (eqb-false (label_of ms k) l (sym (d here) ∙ t)))
+
+    pub target_here : (v : ℕ) → b ≡ true → v ≡ get_or w (3 * k + 1) 0 → Some (record { 0 = v }) ≡ target_found (addr_of ms l)
+    target_here v t a =
+        let z : v ≡ (line_of ms k).addr = a ∙ c.addr k here in
+        let y : label_of ms k ≡ l = eqb-true (label_of ms k) l (sym (d here) ∙ t) in
+        let q : found (line_of ms k).addr ≡ addr_of ms l = sym (addr_here ms l k (omega (arith, c.count, here)) y) ∙ ap (λ (x : ℕ). addrs l (take x ms)) (sym e) ∙ s.rest in
+        ap (λ (x : ℕ). target_found (found x)) z ∙ ap target_found q
+
+-- what an answer says
+abbrev pub start_search : Option DatumIndex → Search
+start_search None = missing
+start_search (Some d) = found d.0
+
+start_again : (o : Option DatumIndex) → o ≡ start_found (start_search o)
+start_again None = refl
+start_again (Some d) = refl
+
+start_or : (z : Search) (o : Option DatumIndex) → start_search (option_or (start_found z) o) ≡ or_else z (start_search o)
+start_or missing o = refl
+start_or (found d) o = refl
+
+module _ (w : List ℕ) (n h l : ℕ) (ms : List Mark) (c : Chained w n h n ms) where
+  abbrev pub Dating : ℕ → Option DatumIndex → Type 0
+  Dating p o = Seeking (data_or l (start_search o)) l h ms p (data_of ms l)
 
   -- its datum
-  pub datum_link : (u d d' : ℕ) → d' ≡ earlier_datum w l (p - 1) d → u ≡ get_or w (3 * (p - 1)) 0 → Seeking (data_or l d) l h ms p (data_of ms l) → Seeking (data_or l d') l h ms (u / 65536) (data_of ms l)
-  unfolding earlier_datum
-  datum_link u d d' e g s =
-      let i = inside (data_or l d) _ s in
-      let y = c.first (p - 1) (omega (arith, c.count, i)) in
-      let z = rw (word_label w n h ms c (p - 1) i, y) at e in
-      seek_link (data_or l d') l h ms (data_skip l d') (data_or l d) p (p - 1) (u / 65536) (data_of ms l) s before (link_is (data_or l d) _ s u g)
-      (ap (λ (x : ℕ). data_or l x (take (p - 1) ms)) z ∙ data_past ms l (p - 1) d i)
+  pub datum_link : (p k q : ℕ) (o o' x : Option DatumIndex) → p ≡ suc k → (k < n → x ≡ start_found (datum_here ms l k)) → o' ≡ option_or x o → (k < n → q ≡ last_in h ms (label_of ms k % h) k)
+      → Dating p o → Dating q o'
+  datum_link p k q o o' x e a b g s =
+      let i = on_way w n h l ms c (data_or l (start_search o)) p k _ e s in
+      let z : start_search o' ≡ or_else (datum_here ms l k) (start_search o) = ap start_search (b ∙ ap (λ (y : Option DatumIndex). option_or y o) (a i)) ∙ start_or (datum_here ms l k) o in
+      seek_link (data_or l (start_search o')) l h ms (data_skip l (start_search o')) (data_or l (start_search o)) p k q (data_of ms l) s e (g i)
+      (ap (λ (y : Search). data_or l y (take k ms)) z ∙ data_past ms l k (start_search o) (omega (arith, c.count, i)))
 
-  pub datum_low : (u d : ℕ) → u ≡ get_or w (3 * (p - 1)) 0 → p ≤ u / 65536 → Seeking (data_or l d) l h ms p (data_of ms l) → NoData ≡ start_found (data_of ms l)
-  datum_low u d e g s = absurd (link_low (data_or l d) _ s u e g)
+  pub datum_start_lem : (p : ℕ) → p ≡ last_in h ms (l % h) n → Dating p None
+  datum_start_lem p e = seek_head (data_or l missing) l h ms (data_skip l missing) p n (data_of ms l) c.count e (or_missing (data_of ms l))
 
--- the start of a chain
-pub target_start : (w : List ℕ) (n h l p : ℕ) (ms : List Mark) → Chained w n h n ms → p ≡ last_in h ms (l % h) n → Seeking (addrs l) l h ms p (addr_of ms l)
-target_start w n h l p ms c e = seek_head (addrs l) l h ms (addrs_skip l) p n (addr_of ms l) c.count e refl
-
-pub target_none : (h l p : ℕ) (ms : List Mark) → p ≤ 0 → Seeking (addrs l) l h ms p (addr_of ms l) → Nowhere ≡ target_found (addr_of ms l)
-unfolding addr_of
-target_none h l zero ms i s = ap target_found s.rest
-target_none h l (suc p) ms i s = absurd (omega arith)
-
-pub datum_start_lem : (w : List ℕ) (n h l p : ℕ) (ms : List Mark) → Chained w n h n ms → p ≡ last_in h ms (l % h) n → Seeking (data_or l 0) l h ms p (data_of ms l)
-datum_start_lem w n h l p ms c e = seek_head (data_or l 0) l h ms (data_skip l 0) p n (data_of ms l) c.count e (or_missing (data_of ms l))
-
-pub datum_end : (h l p d : ℕ) (ms : List Mark) → p ≤ 0 → Seeking (data_or l d) l h ms p (data_of ms l) → datum_from d ≡ data_of ms l
-unfolding data_of
-datum_end h l zero d ms i s = s.rest
-datum_end h l (suc p) d ms i s = absurd (omega arith)
-
-pub datum_none : (h l p d : ℕ) (ms : List Mark) → p ≤ 0 → d ≡ 0 → Seeking (data_or l d) l h ms p (data_of ms l) → NoData ≡ start_found (data_of ms l)
-datum_none h l p d ms i e s = rw (← datum_end h l p d ms i s, e)
-
-pub datum_found : (h l p d : ℕ) (ms : List Mark) → p ≤ 0 → (d ≡ 0 → ⊥) → Seeking (data_or l d) l h ms p (data_of ms l) → From (record { 0 = d - 1 }) ≡ start_found (data_of ms l)
-datum_found h l p zero ms i e s = absurd (e refl)
-datum_found h l p (suc d) ms i e s = rw (sub-one, ← datum_end h l p (suc d) ms i s)
+  pub datum_end : (p : ℕ) (o : Option DatumIndex) → p ≡ 0 → Dating p o → o ≡ start_found (data_of ms l)
+  unfolding data_of
+  datum_end p o e s = start_again o ∙ ap start_found (ap (λ (x : ℕ). data_or l (start_search o) (take x ms)) (sym e) ∙ s.rest)

@@ -205,9 +205,9 @@ unfolding data_of
 data_snoc [] m l = or_missing (pick (eqb m.label l) (datum_from m.first) missing)
 data_snoc (x ∷ xs) m l = rw (data_snoc xs m l) (sym (or_assoc (pick (eqb x.label l) (datum_from x.first) missing) (data_of xs l) (pick (eqb m.label l) (datum_from m.first) missing)))
 
--- what a search of the lines makes of them, with the datum d found behind them
-abbrev pub data_or : ℕ → ℕ → List Mark → Search
-data_or l d xs = or_else (data_of xs l) (datum_from d)
+-- what a search of the lines makes of them, with what was found behind them
+abbrev pub data_or : ℕ → Search → List Mark → Search
+data_or l d xs = or_else (data_of xs l) d
 
 abbrev pub addrs : ℕ → List Mark → Search
 addrs l xs = addr_of xs l
@@ -219,7 +219,7 @@ Skips l f = (xs : List Mark) (m : Mark) → (m.label ≡ l → ⊥) → f (xs ++
 pub addrs_skip : (l : ℕ) → Skips l (addrs l)
 addrs_skip l xs m d = addr_snoc xs m l ∙ rw (ne_eqb m.label l d)
 
-pub data_skip : (l d : ℕ) → Skips l (data_or l d)
+pub data_skip : (l : ℕ) (d : Search) → Skips l (data_or l d)
 data_skip l d xs m z = rw (data_snoc xs m l, ne_eqb m.label l z, or_missing (data_of xs l))
 
 -- on the way down the chain of the label l: the lines before p decide
@@ -276,11 +276,8 @@ pub addr_past : (ms : List Mark) (l k : ℕ) → k < length ms → (label_of ms 
 addr_past ms l k i d = rw (take-suc ms k (mark 0 0 0) i) (sym (addrs_skip l (take k ms) (line_of ms k) d))
 
 -- the datum behind the lines before k: line k's where it has one and that label
-datum_or : (o : Search) (b : Bool) (f d : ℕ) → or_else o (datum_from (pick b (pick (eqb f 0) d f) d)) ≡ or_else (or_else o (pick b (datum_from f) missing)) (datum_from d)
-datum_or (found n) b f d = refl
-datum_or missing true zero d = refl
-datum_or missing true (suc f) d = rw (ne_eqb (suc f) 0 (λ z. omega arith))
-datum_or missing false f d = refl
+abbrev pub datum_here : List Mark → ℕ → ℕ → Search
+datum_here ms l k = pick (eqb (label_of ms k) l) (datum_from (line_of ms k).first) missing
 
-pub data_past : (ms : List Mark) (l k d : ℕ) → k < length ms → data_or l (pick (eqb (label_of ms k) l) (pick (eqb (line_of ms k).first 0) d (line_of ms k).first) d) (take k ms) ≡ data_or l d (take (suc k) ms)
-data_past ms l k d i = rw (take-suc ms k (mark 0 0 0) i, data_snoc (take k ms) (line_of ms k) l) (datum_or (data_of (take k ms) l) (eqb (label_of ms k) l) (line_of ms k).first d)
+pub data_past : (ms : List Mark) (l k : ℕ) (d : Search) → k < length ms → data_or l (or_else (datum_here ms l k) d) (take k ms) ≡ data_or l d (take (suc k) ms)
+data_past ms l k d i = rw (take-suc ms k (mark 0 0 0) i, data_snoc (take k ms) (line_of ms k) l) (sym (or_assoc (data_of (take k ms) l) (datum_here ms l k) d))

@@ -1,5 +1,5 @@
 -- The labelled lines as they stand in the work while labels are looked up: in chains.
-use Rattle.std.specs.Prelude.{◌≡◌, List, true, ℕ, zero, suc, ◌+◌, ◌*◌, ◌-◌, ◌/◌, ◌%◌, ◌≤◌, ◌<◌, min, ltb, eqb, length, get_or}
+use Rattle.std.specs.Prelude.{◌≡◌, List, true, ℕ, zero, suc, ◌+◌, ◌*◌, ◌-◌, ◌/◌, ◌%◌, ◌≤◌, ◌<◌, min, ltb, eqb, length, get_or, Option, None, Some}
 use Rattle.recorder.specs.Word.{pick}
 use Rattle.recorder.specs.Marks.{Mark, mark}
 use Rattle.labels.specs.MarksIn.{narrow}
@@ -36,6 +36,7 @@ pub record Chained (w : List ℕ) (n h j : ℕ) (ms : List Mark) : Type 0 where
 abbrev pub chain_count : ℕ → ℕ → ℕ
 chain_count n words = min (n / 15 * 30 + 31) (words - 3 * n)
 
--- a line's first datum plus 1 where the line has one and that label, else d
-unfoldable pub earlier_datum : List ℕ → ℕ → ℕ → ℕ → ℕ
-earlier_datum w l k d = pick (eqb (get_or w (3 * k) 0 % 65536) l) (pick (eqb (get_or w (3 * k + 2) 0) 0) d (get_or w (3 * k + 2) 0)) d
+-- the place of a line that there may be, plus 1, 0 if there is none
+abbrev pub plus_one : Option ℕ → ℕ
+plus_one None = 0
+plus_one (Some k) = suc k

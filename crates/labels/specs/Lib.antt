@@ -1,3 +1,4 @@
 pub mod MarkWords
 pub mod MarksIn
 pub mod Chains
+pub mod Indexed

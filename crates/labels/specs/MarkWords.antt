@@ -1,9 +1,7 @@
 -- The labelled lines in words, three each, and the answers of the searches for a label.
-use Rattle.std.specs.Prelude.{List, [], ◌∷◌, ℕ, ◌+◌, ◌*◌, ◌/◌, min, ltb, length, set}
-use Rattle.labels.specs.declared.marks.Target.{Target}
-use Rattle.labels.specs.declared.marks.Target.TheVariants.{At, Nowhere}
-use Rattle.labels.specs.declared.marks.Start.{Start}
-use Rattle.labels.specs.declared.marks.Start.TheVariants.{From, NoData}
+use Rattle.std.specs.Prelude.{List, [], ◌∷◌, ℕ, ◌+◌, ◌*◌, ◌/◌, min, ltb, length, set, Option, None, Some}
+use Rattle.recorder.specs.declared.label.Addr.{Addr}
+use Rattle.recorder.specs.declared.label.DatumIndex.{DatumIndex}
 use Rattle.recorder.specs.Word.{pick}
 use Rattle.recorder.specs.Ideal.{Search, missing, found}
 use Rattle.recorder.specs.Marks.{Mark}
@@ -13,13 +11,13 @@ abbrev pub mark_words : Mark → List ℕ
 mark_words m = m.label ∷ m.addr ∷ m.first ∷ []
 
 -- the answers of the two searches
-abbrev pub target_found : Search → Target
-target_found missing = Nowhere
-target_found (found a) = At (record { 0 = a })
+abbrev pub target_found : Search → Option Addr
+target_found missing = None
+target_found (found a) = Some (record { 0 = a })
 
-abbrev pub start_found : Search → Start
-start_found missing = NoData
-start_found (found d) = From (record { 0 = d })
+abbrev pub start_found : Search → Option DatumIndex
+start_found missing = None
+start_found (found d) = Some (record { 0 = d })
 
 unfoldable pub mark_list : List ℕ → ℕ → ℕ → ℕ → ℕ → List ℕ
 mark_list w n l a f = pick (ltb n (length w / 3)) (set (set (set w (3 * n) l) (3 * n + 1) a) (3 * n + 2) f) w

@@ -1,103 +1,139 @@
 // Document 01's program: reads the word count, the unit count, the words and the units of one input and prints its listing.
 #![tactic(auto)]
 
-ghost use Rattle.std.specs.Prelude.{◌≡◌, ◌≤◌, length};
+ghost use Rattle.std.specs.Prelude.{◌≡◌, ◌≤◌, length, Some, OnOk, IfOk, IfSome, drop, slice_index};
+ghost use Rattle.std.specs.Io.KnownBytes.{Appends, Consumes};
+ghost use Rattle.recorder.specs.Word.{kind, payload};
 ghost use Rattle.rules.specs.Outcome.{lengths, outcome};
-ghost use Rattle.compiler.specs.Answered.{outcome_of};
+ghost use Rattle.compiler.specs.Answered.{answer_of, outcome_of};
+ghost use Rattle.listing.specs.Form.{form_bytes};
+ghost use Rattle.listing.specs.Note.{IsNote};
+ghost use Rattle.listing.specs.Text.{record_text, note_text, records_text, notes_text, refusal_line, listing_text};
 
 use compiler::Answer;
-use std::io;
+use recorder::word::{Range, kind_of, payload_of, range_of};
 use std::io::{BufReader, BufWriter, Write};
+use std::{fmt, io};
 
-// A record a line: address, line, call, three arguments.
-fn print_record<W: Write>(
+// A record as it is listed.
+#[derive(Clone, Copy)]
+struct Record {
+    address: usize,
+    line: u32,
+    call: u32,
+    arguments: [u32; 3],
+}
+
+impl Record {
+    fn at(address: usize, words: [u32; 5]) -> Self
+        ensures address { result.address ≡ address }
+        ensures line { result.line ≡ payload (slice_index words 0) }
+        ensures call { result.call ≡ kind (slice_index words 0) }
+        ensures arguments { result.arguments ≡ drop 2 words }
+    {
+        let [head, _, a, b, c] = words;
+        Record {
+            address,
+            line: payload_of(head),
+            call: kind_of(head),
+            arguments: [a, b, c],
+        }
+    }
+}
+
+impl fmt::Display for Record {
+    ghost output = { λ r. Some (record_text r.address r.line r.call r.arguments) };
+
+    fn fmt<W: fmt::Write>(&self, f: &mut fmt::Formatter<W>) -> fmt::Result {
+        let [a, b, c] = self.arguments;
+        write!(
+            f,
+            "{} {} {} {a} {b} {c}",
+            self.address, self.line, self.call
+        )
+    }
+}
+
+// A note as it is listed.
+#[derive(Clone, Copy)]
+struct Note {
+    class: u32,
+    line: u32,
+    range: Range,
+}
+
+impl From<[u32; 4]> for Note {
+    ghost from_gives = { IsNote };
+
+    fn from(words: [u32; 4]) -> Self {
+        let [head, range, _, _] = words;
+        Note {
+            class: kind_of(head),
+            line: payload_of(head),
+            range: range_of(range),
+        }
+    }
+}
+
+impl fmt::Display for Note {
+    ghost output = { λ n. Some (note_text n.class n.line n.range.start n.range.end) };
+
+    fn fmt<W: fmt::Write>(&self, f: &mut fmt::Formatter<W>) -> fmt::Result {
+        let Range { start, end } = self.range;
+        write!(f, "note {} {} {start} {end}", self.class, self.line)
+    }
+}
+
+// A line for each of so many records, in the order of their addresses.
+fn print_records<W: Write>(out: &mut W, list: &[u32], count: u32) -> io::Result<()>
+    ensures { OnOk result
+        (Appends (W.contents out.old) (W.contents out.new) (records_text list.now count)) }
+{
+    let (rows, _) = list.as_chunks::<5>();
+    let rows = &rows[..feed::least(count, rows.len())];
+    for (address, words) in rows.iter().enumerate() {
+        writeln!(out, "{}", Record::at(address, *words))?;
+    }
+    Ok(())
+}
+
+// A line for each of so many notes.
+fn print_notes<W: Write>(out: &mut W, notes: &[u32], count: usize) -> io::Result<()>
+    ensures { OnOk result
+        (Appends (W.contents out.old) (W.contents out.new) (notes_text notes.now count)) }
+{
+    let (rows, _) = notes.as_chunks::<4>();
+    let rows = &rows[..count.min(rows.len())];
+    for words in rows {
+        writeln!(out, "{}", Note::from(*words))?;
+    }
+    Ok(())
+}
+
+fn print_refusal<W: Write>(out: &mut W, number: u32) -> io::Result<()>
+    ensures { OnOk result
+        (Appends (W.contents out.old) (W.contents out.new) (refusal_line number)) }
+{
+    writeln!(out, "refused {number}")
+}
+
+// The listing: the refusal alone, or the records and then the notes.
+fn print_listing<W: Write>(
     out: &mut W,
-    at: u32,
-    head: u32,
-    a: u32,
-    b: u32,
-    c: u32,
-) -> io::Result<()> {
-    feed::print_number(out, at)?;
-    feed::print_next(out, recorder::word::payload_of(head))?;
-    feed::print_next(out, recorder::word::kind_of(head))?;
-    feed::print_next(out, a)?;
-    feed::print_next(out, b)?;
-    feed::print_next(out, c)?;
-    feed::print(out, b"\n")
-}
-
-// A note a line: "note", class, line, start, end.
-fn print_note<W: Write>(out: &mut W, head: u32, range: u32) -> io::Result<()> {
-    let r = recorder::word::range_of(range);
-    feed::print(out, b"note")?;
-    feed::print_next(out, recorder::word::kind_of(head))?;
-    feed::print_next(out, recorder::word::payload_of(head))?;
-    feed::print_next(out, r.start as u32)?;
-    feed::print_next(out, r.end as u32)?;
-    feed::print(out, b"\n")
-}
-
-fn print_records<W: Write>(out: &mut W, list: &[u32], count: u32) -> io::Result<()> {
-    let mut rest = list;
-    for k in 0..count {
-        if rest.len() < 5 {
-            return Ok(());
+    answer: Answer,
+    list: &[u32],
+    notes: &[u32],
+) -> io::Result<()>
+    ensures { OnOk result (Appends (W.contents out.old) (W.contents out.new)
+        (listing_text answer list.now notes.now)) }
+{
+    match answer {
+        Ok(sizes) => {
+            print_records(out, list, sizes.records)?;
+            print_notes(out, notes, sizes.notes)
         }
-        let (record, others) = rest.split_at(5);
-        print_record(out, k, record[0], record[2], record[3], record[4])?;
-        rest = others;
+        Err(refusal) => print_refusal(out, refusal.number()),
     }
-    Ok(())
-}
-
-fn print_notes<W: Write>(out: &mut W, notes: &[u32], count: usize) -> io::Result<()> {
-    let mut rest = notes;
-    for _ in 0..count {
-        if rest.len() < 4 {
-            return Ok(());
-        }
-        let (note, others) = rest.split_at(4);
-        print_note(out, note[0], note[1])?;
-        rest = others;
-    }
-    Ok(())
-}
-
-fn refused<W: Write>(out: &mut W, number: u32) -> io::Result<()> {
-    feed::print(out, b"refused")?;
-    feed::print_next(out, number)?;
-    feed::print(out, b"\n")
-}
-
-fn show<W: Write>(out: &mut W, r: Answer, list: &[u32], notes: &[u32]) -> io::Result<()> {
-    if r.refusal != 0 {
-        return refused(out, r.refusal);
-    }
-    print_records(out, list, r.records)?;
-    print_notes(out, notes, r.notes)
-}
-
-// Reads one input; false if it is above 2,048 of either or short.
-fn read<R: io::Read>(
-    input: &mut R,
-    words: &mut [u32],
-    units: &mut [u16],
-    counts: &mut [u32; 2],
-) -> io::Result<bool> {
-    if !feed::read_words(input, counts, 2)? {
-        return Ok(false);
-    }
-    if counts[0] > 2048 {
-        return Ok(false);
-    }
-    if counts[1] > 2048 {
-        return Ok(false);
-    }
-    if !feed::read_words(input, words, counts[0])? {
-        return Ok(false);
-    }
-    feed::read_units(input, units, counts[1])
 }
 
 // "Its buffers suffice": so many words make at most 2,730 records of five words, 4,096 notes and 2,048 entries of four.
@@ -109,52 +145,84 @@ const NOTES: usize = 16384;
 
 const BOOK: usize = 8192;
 
-// Compiles a form: for at most 2,048 words none of the refusals 9 to 11 comes.
-fn compile_form(
-    words: &[u32],
-    units: &[u16],
-    list: &mut [u32; LIST],
-    notes: &mut [u32; NOTES],
-    book: &mut [u32; BOOK],
-    work: &mut [u32; WORDS],
-) -> Answer
-    ensures { (outcome_of result list.new notes.new book.new work.new ≡ outcome words.now units.now (lengths (length list.old) (length notes.old) (length book.old) (length work.old))) × (length words.now ≤ 2048 → result.refusal ≤ 8) }
-{
-    compiler::compile(words, units, list, notes, book, work)
+// What is lent to be written.
+#[derive(Drop)]
+struct Buffers {
+    list: [u32; LIST],
+    notes: [u32; NOTES],
+    book: [u32; BOOK],
+    work: [u32; WORDS],
 }
 
-fn list_of<W: Write>(
-    out: &mut W,
-    words: &[u32],
-    units: &[u16],
-    counts: &[u32; 2],
-    list: &mut [u32; LIST],
-    notes: &mut [u32; NOTES],
-    book: &mut [u32; BOOK],
-    work: &mut [u32; WORDS],
-) -> io::Result<()> {
-    let a = feed::least(counts[0], words.len());
-    let b = feed::least(counts[1], units.len());
-    let r = compile_form(&words[..a], &units[..b], list, notes, book, work);
-    show(out, r, list, notes)
+impl Buffers {
+    // Compiles a form: for at most 2,048 words none of the refusals 9 to 11 comes.
+    fn compile_form(&mut self, words: &[u32], units: &[u16]) -> Answer
+        ensures outcome { outcome_of result self.new.list self.new.notes self.new.book self.new.work
+            ≡ outcome words.now units.now (lengths (length self.old.list) (length self.old.notes)
+            (length self.old.book) (length self.old.work)) }
+        ensures suffices { length words.now ≤ 2048 → (answer_of result).refusal ≤ 8 }
+    {
+        compiler::compile(
+            words,
+            units,
+            &mut self.list,
+            &mut self.notes,
+            &mut self.book,
+            &mut self.work,
+        )
+    }
+}
+
+// A form: its sheet and its text.
+#[derive(Clone, Copy)]
+struct Form<'a> {
+    words: &'a [u32],
+    units: &'a [u16],
+}
+
+impl<'a> Form<'a> {
+    // The word count, the unit count, the words and the units; none if it is above 2,048 of either.
+    fn read<R: io::Read>(
+        input: &mut R,
+        words: &'a mut [u32; WORDS],
+        units: &'a mut [u16; WORDS],
+    ) -> io::Result<Option<Self>>
+        ensures bytes { IfOk result (λ o. IfSome o
+            (λ f. Consumes (R.remaining input.old) (R.remaining input.new)
+            (form_bytes f.words.now f.units.now))) }
+        ensures most { IfOk result
+            (λ o. IfSome o (λ f. (length f.words.now ≤ 2048) × (length f.units.now ≤ 2048))) }
+    {
+        let word_count: u32 = feed::read_number(input)?;
+        let unit_count: u32 = feed::read_number(input)?;
+        if word_count > 2048 || unit_count > 2048 {
+            return Ok(None);
+        }
+        let words = feed::read_numbers(input, words, word_count)?;
+        let units = feed::read_numbers(input, units, unit_count)?;
+        Ok(Some(Form { words, units }))
+    }
 }
 
 fn main(rt: HostRuntime) -> io::Result<()> {
-    let mut counts = [0u32; 2];
     let mut words = [0u32; WORDS];
     let mut units = [0u16; WORDS];
-    let mut list = [0u32; LIST];
-    let mut notes = [0u32; NOTES];
-    let mut book = [0u32; BOOK];
-    let mut work = [0u32; WORDS];
+    let mut buffers = Buffers {
+        list: [0; LIST],
+        notes: [0; NOTES],
+        book: [0; BOOK],
+        work: [0; WORDS],
+    };
     let mut input = BufReader::new(rt.alloc(), rt.reader())?;
     let mut out = BufWriter::new(rt.alloc(), io::writer(&rt))?;
-    if read(&mut input, &mut words, &mut units, &mut counts)? {
-        list_of(
-            &mut out, &words, &units, &counts, &mut list, &mut notes, &mut book, &mut work,
-        )?;
-    } else {
-        refused(&mut out, 1)?;
+    // Short input is refused as too long is.
+    let form = Form::read(&mut input, &mut words, &mut units);
+    match feed::unless_ended(form)?.flatten() {
+        Some(form) => {
+            let answer = buffers.compile_form(form.words, form.units);
+            print_listing(&mut out, answer, &buffers.list, &buffers.notes)?;
+        }
+        None => print_refusal(&mut out, 1)?,
     }
     out.flush()
 }

@@ -2,7 +2,7 @@
 use mathlib.Core.Path.{◌≡◌, refl, sym as inv, ap, ◌∙◌}
 use mathlib.Core.List.{List}
 use mathlib.Core.Bool.{Bool, true, false}
-use Prim.Native.Nat.{ℕ, zero, suc, ◌+◌, ◌*◌, ◌-◌, ◌%◌, ◌≤◌, ◌<◌}
+use Prim.Native.Nat.{ℕ, zero, suc, ◌*◌, ◌-◌, ◌%◌, ◌≤◌, ◌<◌}
 use lib.ListN.{get_or, length}
 use lib.Dec.{ltb}
 use native.Mathlib.Omega.{arith}
@@ -10,38 +10,20 @@ use Rattle.recorder.specs.declared.word.Range.{Range}
 use Rattle.recorder.specs.Word.{pick, payload_at, range_at, next}
 use Rattle.recorder.specs.Mem.{Mem, mem_r, names_in, symbol_number, entry_of, known, as_word, records_in}
 use Rattle.sheet.specs.declared.form.Shape.TheVariants.{For, Next, While}
-use Rattle.sheet.specs.Form.{is_absent}
 use Rattle.sheet.specs.Skip.{skip_repeat, skip_list, skip_fields, skip_field, skip_times, skip_pair, skip_item}
 use Rattle.sheet.specs.Tree.{Opt, Expr, expr_at, items_at, opt_at, stmt_node}
 use Rattle.rules.specs.declared.types.«Type».{«Type» as Ty}
 use Rattle.rules.specs.declared.types.«Type».TheVariants.{Real}
-use Rattle.rules.specs.Types.{matches_type}
 use Rattle.rules.specs.Expr.{compile_sym, opt_real_sym}
-use Rattle.rules.specs.Stmt.{compile_stmt, compile_while, compile_for, for_node, step_flag, next_one, next_range, next_each, compile_next}
-use Rattle.nodes.specs.declared.node.OptRange.{OptRange}
-use Rattle.nodes.specs.declared.node.OptRange.TheVariants.{Given, Absent}
+use Rattle.rules.specs.Stmt.{compile_stmt, compile_while, compile_for, for_node, step_flag, next_one, next_each, compile_next}
+use Rattle.std.specs.Prelude.{Option}
 use Rattle.nodes.specs.Compiled.{sym, named, opt_of, CompiledTyped, PayloadAt}
 use Rattle.expressions.specs.Body.{Body}
 use Rattle.expressions.proofs.Lists.{items_step, items_length, repeat_step}
 use Rattle.loops.specs.Parts.{Stepped, NextDone}
 
 -- FOR
-pub step_absent : (s t : List ℕ) (base left at q : ℕ) (b : Bool) (m : Mem) → b ≡ is_absent s at → b ≡ true → q ≡ next s at → Stepped s t base left at m m q 0
-unfolding skip_field skip_times
-step_absent s t base left at q b m e h p = let f : is_absent s at ≡ true = inv e ∙ h in record { place = rw (f, p); result = rw f; told = rw f }
-
-pub step_given : (s t : List ℕ) (base left at q : ℕ) (b : Bool) (m m1 : Mem) → b ≡ is_absent s at → b ≡ false → CompiledTyped s t base left at Real m m1 q → Stepped s t base left at m m1 q 1
-unfolding skip_field skip_times skip_pair skip_item
-step_given s t base left at q b m m1 e h x = let f : is_absent s at ≡ false = inv e ∙ h in record { place = rw f x.place; result = rw f x.result; told = rw f }
-
-pub for_given : (t : List ℕ) (base n f : ℕ) (o : OptRange) (v r : Range) (e : Opt Expr) (m m1 : Mem) → o ≡ Given v → m1 ≡ (mem_r t).emit m 23 r n f 0 → f ≡ step_flag e
-    → m1 ≡ for_node (mem_r t) t base (opt_of o) r n e m
-for_given t base n f o v r e m m1 h p q = rw (h, p, q)
-
-pub for_absent : (t : List ℕ) (base n : ℕ) (o : OptRange) (r : Range) (e : Opt Expr) (m : Mem) → o ≡ Absent → m ≡ for_node (mem_r t) t base (opt_of o) r n e m
-for_absent t base n o r e m h = rw h
-
-pub at_for : (s t : List ℕ) (base left k at : ℕ) (r : Range) (o : OptRange) (v q1 q2 q3 q4 f : ℕ) (m m1 m2 m3 m4 m5 : Mem) → opt_of o ≡ opt_at s (range_at s) at
+pub at_for : (s t : List ℕ) (base left k at : ℕ) (r : Range) (o : Option Range) (v q1 q2 q3 q4 f : ℕ) (m m1 m2 m3 m4 m5 : Mem) → opt_of o ≡ opt_at s (range_at s) at
     → named m1 v ≡ opt_real_sym (mem_r t) t base (opt_of o) m → q1 ≡ next s at → CompiledTyped s t base left q1 Real m1 m2 q2 → CompiledTyped s t base left q2 Real m2 m3 q3
     → Stepped s t base left q3 m3 m4 q4 f → ((e : Opt Expr) → f ≡ step_flag e → m5 ≡ for_node (mem_r t) t base (opt_of o) r v e m4) → Body s t base left For k r at m m5 q4
 unfolding stmt_node compile_stmt compile_for skip_fields skip_field skip_times skip_pair skip_item
@@ -51,13 +33,6 @@ at_for s t base left k at r o v q1 q2 q3 q4 f m m1 m2 m3 m4 m5 ho hv h1 x y z la
 }
 
 -- NEXT
-pub next_fits : (ty : Ty) (v : Range) (m : Mem) (b : Bool) → b ≡ matches_type ty Real → b ≡ true → (t : List ℕ) → m ≡ pick (matches_type ty Real) m ((mem_r t).note m 5 v 1)
-next_fits ty v m b e h t = let f : matches_type ty Real ≡ true = inv e ∙ h in rw f
-
-pub next_noted : (ty : Ty) (v : Range) (m m1 : Mem) (b : Bool) (t : List ℕ) → b ≡ matches_type ty Real → b ≡ false → m1 ≡ (mem_r t).note m 5 v 1
-    → m1 ≡ pick (matches_type ty Real) m ((mem_r t).note m 5 v 1)
-next_noted ty v m m1 b t e h p = let f : matches_type ty Real ≡ false = inv e ∙ h in rw (f, p)
-
 below : (c : Bool) (a b : ℕ) → pick c (a % 16777216) (b % 16777216) < 16777216
 below true a b = omega arith
 below false a b = omega arith
@@ -70,20 +45,13 @@ pub sym_small : (t : List ℕ) (base : ℕ) (r : Range) (m m1 : Mem) (v : ℕ) (
 unfolding compile_sym
 sym_small t base r m m1 v ty e = let f : v ≡ (compile_sym (mem_r t) t base r m).number = ap (λ z. z.number) e in rw f (small _ _ _ _ _ _)
 
-pub next_given : (t : List ℕ) (base n : ℕ) (r v w : Range) (o : OptRange) (y : ℕ) (ty : Ty) (m m1 m2 m3 : Mem) → o ≡ Given v → sym m1 y ty ≡ compile_sym (mem_r t) t base v m
-    → m2 ≡ pick (matches_type ty Real) m1 ((mem_r t).note m1 5 v 1) → w ≡ next_range n r v → m3 ≡ (mem_r t).emit m2 24 w (y + 1) 0 0 → m3 ≡ next_one (mem_r t) t base n r (opt_of o) m
-next_given t base n r v w o y ty m m1 m2 m3 h p q hw e = rw (h, ← p, e, hw, q)
-
-pub next_absent : (t : List ℕ) (base n : ℕ) (r : Range) (o : OptRange) (m : Mem) → o ≡ Absent → m ≡ next_one (mem_r t) t base n r (opt_of o) m
-next_absent t base n r o m h = rw h
-
 next_more : (t : List ℕ) (base k : ℕ) (r : Range) (s : List ℕ) (n at : ℕ) (m : Mem) → 0 < n
     → next_each (mem_r t) t base k r (items_at s (opt_at s (range_at s)) (next s) n at) m
     ≡ next_each (mem_r t) t base k r (items_at s (opt_at s (range_at s)) (next s) (n - 1) (next s at)) (next_one (mem_r t) t base k r (opt_at s (range_at s) at) m)
 unfolding next_each
 next_more t base k r s n at m h = rw (items_step s (opt_at s (range_at s)) (next s) n at h)
 
-pub step_next : (s t : List ℕ) (base k : ℕ) (r : Range) (n at p : ℕ) (o : OptRange) (m m1 : Mem) → 0 < n → opt_of o ≡ opt_at s (range_at s) at → p ≡ next s at
+pub step_next : (s t : List ℕ) (base k : ℕ) (r : Range) (n at p : ℕ) (o : Option Range) (m m1 : Mem) → 0 < n → opt_of o ≡ opt_at s (range_at s) at → p ≡ next s at
     → m1 ≡ next_one (mem_r t) t base k r (opt_of o) m
     → next_each (mem_r t) t base k r (items_at s (opt_at s (range_at s)) (next s) (n - 1) p) m1 ≡ next_each (mem_r t) t base k r (items_at s (opt_at s (range_at s)) (next s) n at) m
 step_next s t base k r n at p o m m1 h ho hp e = rw (next_more t base k r s n at m h, ← hp, ← ho, ← e)

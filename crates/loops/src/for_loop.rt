@@ -11,7 +11,6 @@ ghost use Rattle.nodes.specs.Compiled.{opt_of};
 ghost use Rattle.expressions.specs.Body.{Body};
 ghost use Rattle.loops.specs.Parts.{Stepped, NextDone};
 
-use nodes::node::OptRange;
 use recorder::codegen::St;
 use recorder::word::Range;
 use rules::types::Type;
@@ -23,6 +22,7 @@ struct Step {
     flag: u32,
 }
 
+#[tactic(auto, unfolding(sheet::specs::Skip::skip_field, sheet::specs::Skip::skip_times, sheet::specs::Skip::skip_pair, sheet::specs::Skip::skip_item))]
 fn compile_step(
     sheet: &&[u32],
     text: &&[u16],
@@ -37,8 +37,10 @@ fn compile_step(
     ensures { Stepped sheet.now.now text.now.now base left at (mem list.old notes.old book.old st.old) (mem list.new notes.new book.new st.new) result.at result.flag }
 {
     if sheet::leaf::is_absent(*sheet, at) {
-        let p = recorder::word::behind(*sheet, at);
-        Step { at: p, flag: 0 }
+        Step {
+            at: recorder::word::behind(*sheet, at),
+            flag: 0,
+        }
     } else {
         let x = expressions::expr::compile_typed(
             sheet,
@@ -57,12 +59,12 @@ fn compile_step(
 }
 
 // FOR's record, where its counter has a name: call 23.
-fn for_node(list: &mut [u32], st: &mut St, o: OptRange, r: Range, n: u32, step: u32)
+fn for_node(list: &mut [u32], st: &mut St, o: Option<Range>, r: Range, n: u32, step: u32)
     ensures { (t k b : List ℕ) (base : ℕ) (e : Opt Expr) → step ≡ step_flag e → mem list.new k b st.new ≡ for_node (mem_r t) t base (opt_of o) r n e (mem list.old k b st.old) }
 {
     match o {
-        OptRange::Given(_) => recorder::codegen::emit_for(list, st, r, n, step),
-        OptRange::Absent => {}
+        Some(_) => recorder::codegen::emit_for(list, st, r, n, step),
+        None => {}
     }
 }
 
@@ -116,10 +118,9 @@ pub fn compile_for(
 fn next_note(notes: &mut [u32], st: &mut St, v: Range, ty: Type)
     ensures { (t l b : List ℕ) → mem l notes.new b st.new ≡ pick (matches_type ty Real) (mem l notes.old b st.old) ((mem_r t).note (mem l notes.old b st.old) 5 v 1) }
 {
-    if rules::types::matches(ty, Type::Real) {
-        return;
+    if !ty.matches(Type::Real) {
+        recorder::codegen::note(notes, st, 5, v, 1)
     }
-    recorder::codegen::note(notes, st, 5, v, 1)
 }
 
 fn next_range(n: u32, r: Range, v: Range) -> Range
@@ -138,19 +139,19 @@ fn next_one(
     base: u32,
     n: u32,
     r: Range,
-    o: OptRange,
+    o: Option<Range>,
 )
     ensures { mem list.new notes.new book.new st.new ≡ next_one (mem_r text.now.now) text.now.now base n r (opt_of o) (mem list.old notes.old book.old st.old) }
 {
     match o {
-        OptRange::Given(v) => {
+        Some(v) => {
             let y = nodes::node::compile_sym(*text, notes, book, st, base, v);
             let ty = y.ty;
             next_note(notes, st, v, ty);
             let w = next_range(n, r, v);
             recorder::codegen::emit_next(list, st, w, y.number + 1)
         }
-        OptRange::Absent => {}
+        None => {}
     }
 }
 
@@ -169,12 +170,10 @@ fn next_each(
     ensures { NextDone sheet.now.now text.now.now base at n r (mem list.old notes.old book.old st.old) (mem list.new notes.new book.new st.new) result }
 {
     let mut p = at;
-    let mut more = n;
-    while 0 < more {
+    for _ in 0..n {
         let o = nodes::node::opt_range_at(*sheet, p);
         next_one(text, list, notes, book, st, base, n, r, o);
         p = recorder::word::behind(*sheet, p);
-        more -= 1;
     }
     p
 }

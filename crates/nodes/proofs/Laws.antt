@@ -21,8 +21,8 @@ use Rattle.rules.specs.declared.tables.Sig.{Sig}
 use Rattle.rules.specs.Tables.{signature_of, signature_for}
 use Rattle.rules.specs.Name.{text_place}
 use Rattle.rules.specs.Expr.{out, sym_of, blank_note, compile_sym, check_type, check_real, real_sym, opt_real_sym, var_node, var_place, ends_in_quote, quoted_length, quoted_start, text_node, number_node, tab_note, arity_notes, func_notes, func_node, user_call, like_call, like_type, unlike_type, like_node, arith_node, binary_node, unary_node, index_node, index_place}
-use Rattle.nodes.specs.declared.node.OptRange.{OptRange}
-use Rattle.nodes.specs.declared.node.OptRange.TheVariants.{Given, Absent}
+use Rattle.std.specs.Prelude.{Option}
+use Rattle.std.specs.Prelude.{Some, None}
 use Rattle.nodes.specs.Compiled.{sym, named, opt_of}
 
 -- what a note, and a record, ensure
@@ -36,10 +36,10 @@ abbrev pub Symbol : List ℕ → ℕ → ℕ → ℕ → List ℕ → List ℕ �
 Symbol t x n g b b' s s' v = (b' ≡ symbol_list t b s x n g) × (s' ≡ symbol_st t b s x n g) × (v ≡ symbol_number t b s x n g)
 
 -- options
-pub opt_absent : (s : List ℕ) (at : ℕ) (k : Bool) → k ≡ is_absent s at → k ≡ true → opt_of Absent ≡ opt_at s (range_at s) at
+pub opt_absent : (s : List ℕ) (at : ℕ) (k : Bool) → k ≡ is_absent s at → k ≡ true → opt_of None ≡ opt_at s (range_at s) at
 opt_absent s at k e h = let f : is_absent s at ≡ true = inv e ∙ h in rw (f)
 
-pub opt_given : (s : List ℕ) (at : ℕ) (k : Bool) (r : Range) → k ≡ is_absent s at → k ≡ false → r ≡ range_at s at → opt_of (Given r) ≡ opt_at s (range_at s) at
+pub opt_given : (s : List ℕ) (at : ℕ) (k : Bool) (r : Range) → k ≡ is_absent s at → k ≡ false → r ≡ range_at s at → opt_of (Some r) ≡ opt_at s (range_at s) at
 opt_given s at k r e h f = let g : is_absent s at ≡ false = inv e ∙ h in simp (g, f)
 
 -- kinds
@@ -91,11 +91,11 @@ pub real_of : (t : List ℕ) (base : ℕ) (r : Range) (m m1 m2 : Mem) (v : ℕ) 
 unfolding real_sym
 real_of t base r m m1 m2 v ty p q = rw (← p, q)
 
-pub func_given : (t : List ℕ) (base : ℕ) (o : OptRange) (r : Range) (m m1 : Mem) (v : ℕ) → o ≡ Given r → named m1 v ≡ real_sym (mem_r t) t base r m
+pub func_given : (t : List ℕ) (base : ℕ) (o : Option Range) (r : Range) (m m1 : Mem) (v : ℕ) → o ≡ Some r → named m1 v ≡ real_sym (mem_r t) t base r m
     → named m1 v ≡ opt_real_sym (mem_r t) t base (opt_of o) m
 func_given t base o r m m1 v e p = rw e p
 
-pub func_absent : (t : List ℕ) (base : ℕ) (o : OptRange) (m : Mem) → o ≡ Absent → named m 0 ≡ opt_real_sym (mem_r t) t base (opt_of o) m
+pub func_absent : (t : List ℕ) (base : ℕ) (o : Option Range) (m : Mem) → o ≡ None → named m 0 ≡ opt_real_sym (mem_r t) t base (opt_of o) m
 func_absent t base o m e = rw e
 
 -- variables
@@ -186,10 +186,10 @@ pub func_called : (t : List ℕ) (base k n : ℕ) (r : Range) (g : Sig) (x : Ty)
 unfolding func_node
 func_called t base k n r g x m m1 p e f = rw (p, f, e)
 
-pub user_given : (t : List ℕ) (base n : ℕ) (o : OptRange) (fr r : Range) (m m1 : Mem) → o ≡ Given fr → m1 ≡ (mem_r t).emit m 12 r n 0 0 → m1 ≡ user_call (mem_r t) t base (opt_of o) r n m
+pub user_given : (t : List ℕ) (base n : ℕ) (o : Option Range) (fr r : Range) (m m1 : Mem) → o ≡ Some fr → m1 ≡ (mem_r t).emit m 12 r n 0 0 → m1 ≡ user_call (mem_r t) t base (opt_of o) r n m
 user_given t base n o fr r m m1 e p = rw (e, p)
 
-pub user_absent : (t : List ℕ) (base n : ℕ) (o : OptRange) (r : Range) (m : Mem) → o ≡ Absent → m ≡ user_call (mem_r t) t base (opt_of o) r n m
+pub user_absent : (t : List ℕ) (base n : ℕ) (o : Option Range) (r : Range) (m : Mem) → o ≡ None → m ≡ user_call (mem_r t) t base (opt_of o) r n m
 user_absent t base n o r m e = rw e
 
 -- operators
@@ -236,16 +236,16 @@ unfolding unary_node
 unary_of t base k r ar x m m1 m2 p e = rw (e, p)
 
 -- elements of arrays
-pub index_given : (t : List ℕ) (base n : ℕ) (o : OptRange) (nr r : Range) (m m1 m2 : Mem) (v : ℕ) (ty : Ty) → o ≡ Given nr → sym m1 v ty ≡ compile_sym (mem_r t) t base nr m
+pub index_given : (t : List ℕ) (base n : ℕ) (o : Option Range) (nr r : Range) (m m1 m2 : Mem) (v : ℕ) (ty : Ty) → o ≡ Some nr → sym m1 v ty ≡ compile_sym (mem_r t) t base nr m
     → m2 ≡ (mem_r t).emit m1 6 r v n 0 → out m2 ty ≡ index_node (mem_r t) t base (opt_of o) r n m
 index_given t base n o nr r m m1 m2 v ty e p q = rw (e, ← p, q)
 
-pub index_absent : (t : List ℕ) (base n : ℕ) (o : OptRange) (r : Range) (m : Mem) → o ≡ Absent → out m Error ≡ index_node (mem_r t) t base (opt_of o) r n m
+pub index_absent : (t : List ℕ) (base n : ℕ) (o : Option Range) (r : Range) (m : Mem) → o ≡ None → out m Error ≡ index_node (mem_r t) t base (opt_of o) r n m
 index_absent t base n o r m e = rw e
 
-pub stored_given : (t : List ℕ) (base n : ℕ) (o : OptRange) (nr : Range) (m m1 m2 : Mem) (v : ℕ) (ty : Ty) → o ≡ Given nr → sym m1 v ty ≡ compile_sym (mem_r t) t base nr m
+pub stored_given : (t : List ℕ) (base n : ℕ) (o : Option Range) (nr : Range) (m m1 m2 : Mem) (v : ℕ) (ty : Ty) → o ≡ Some nr → sym m1 v ty ≡ compile_sym (mem_r t) t base nr m
     → m2 ≡ (mem_r t).emit m1 8 nr v n 0 → out m2 ty ≡ index_place (mem_r t) t base (opt_of o) n m
 stored_given t base n o nr m m1 m2 v ty e p q = rw (e, ← p, q)
 
-pub stored_absent : (t : List ℕ) (base n : ℕ) (o : OptRange) (m : Mem) → o ≡ Absent → out m Error ≡ index_place (mem_r t) t base (opt_of o) n m
+pub stored_absent : (t : List ℕ) (base n : ℕ) (o : Option Range) (m : Mem) → o ≡ None → out m Error ≡ index_place (mem_r t) t base (opt_of o) n m
 stored_absent t base n o m e = rw e

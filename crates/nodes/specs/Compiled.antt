@@ -12,8 +12,8 @@ use Rattle.rules.specs.declared.tables.Wants.{Wants}
 use Rattle.rules.specs.Tables.{wanted_by}
 use Rattle.rules.specs.Expr.{out, Sym, compile_expr, compile_args, compile_typed, compile_lvalue}
 use Rattle.rules.specs.Stmt.{place_typed}
-use Rattle.nodes.specs.declared.node.OptRange.{OptRange}
-use Rattle.nodes.specs.declared.node.OptRange.TheVariants.{Given, Absent}
+use Rattle.std.specs.Prelude.{Option}
+use Rattle.std.specs.Prelude.{Some, None}
 
 abbrev pub sym : Mem → ℕ → Ty → Sym Mem
 sym m n ty = record { state = m; number = n; ty = ty }
@@ -22,9 +22,9 @@ abbrev pub named : Mem → ℕ → Named Mem
 named m n = record { state = m; number = n }
 
 -- the code's option of a range
-abbrev pub opt_of : OptRange → Opt Range
-opt_of (Given r) = given r
-opt_of Absent = absent
+abbrev pub opt_of : Option Range → Opt Range
+opt_of (Some r) = given r
+opt_of None = absent
 
 -- the expression at a place, with `left` depths left: the place behind it, and the memory and kind that the rules give
 pub record Compiled (s t : List ℕ) (base left at : ℕ) (m m' : Mem) (p : ℕ) (ty : Ty) : Type 0 where

@@ -9,14 +9,8 @@ ghost use Rattle.nodes.specs.Compiled.{sym, named, opt_of};
 
 use recorder::codegen::St;
 use recorder::word::Range;
+use rules::tables::Sig;
 use rules::types::Type;
-
-// A range that may be absent.
-#[derive(Clone, Copy)]
-pub enum OptRange {
-    Given(Range),
-    Absent,
-}
 
 // A symbol's number and its kind.
 #[derive(Clone, Copy)]
@@ -25,13 +19,13 @@ pub struct Sym {
     pub ty: Type,
 }
 
-pub fn opt_range_at(sheet: &[u32], at: usize) -> OptRange
+pub fn opt_range_at(sheet: &[u32], at: usize) -> Option<Range>
     ensures { opt_of result ≡ opt_at sheet.now (range_at sheet.now) at }
 {
     if sheet::leaf::is_absent(sheet, at) {
-        OptRange::Absent
+        None
     } else {
-        OptRange::Given(recorder::word::range_at(sheet, at))
+        Some(recorder::word::range_at(sheet, at))
     }
 }
 
@@ -39,7 +33,7 @@ pub fn opt_range_at(sheet: &[u32], at: usize) -> OptRange
 pub fn check_type(notes: &mut [u32], st: &mut St, want: Type, r: Range, ty: Type)
     ensures { (t l b : List ℕ) (base : ℕ) → mem l notes.new b st.new ≡ check_type (mem_r t) t base want r ty (mem l notes.old b st.old) }
 {
-    if rules::types::matches(ty, want) {
+    if ty.matches(want) {
         return;
     }
     recorder::codegen::note(notes, st, 4, r, 1)
@@ -76,7 +70,7 @@ pub fn compile_sym(
 fn check_real(notes: &mut [u32], st: &mut St, r: Range, ty: Type)
     ensures { (t l b : List ℕ) (base : ℕ) → mem l notes.new b st.new ≡ check_real (mem_r t) t base r ty (mem l notes.old b st.old) }
 {
-    if rules::types::exact_matches(ty, Type::Real) {
+    if ty.exact_matches(Type::Real) {
         return;
     }
     recorder::codegen::note(notes, st, 5, r, 1)
@@ -106,13 +100,13 @@ pub fn opt_real_sym(
     book: &mut [u32],
     st: &mut St,
     base: u32,
-    o: OptRange,
+    o: Option<Range>,
 ) -> u32
     ensures { (l : List ℕ) → named (mem l notes.new book.new st.new) result ≡ opt_real_sym (mem_r text.now) text.now base (opt_of o) (mem l notes.old book.old st.old) }
 {
     match o {
-        OptRange::Given(r) => real_sym(text, notes, book, st, base, r),
-        OptRange::Absent => 0,
+        Some(r) => real_sym(text, notes, book, st, base, r),
+        None => 0,
     }
 }
 
@@ -155,7 +149,7 @@ pub fn var_place(
 fn ends_in_quote(text: &[u16], base: u32, r: Range) -> bool
     ensures { result ≡ ends_in_quote text.now base r }
 {
-    let last = rules::name::less_one(rules::name::text_place(base, r.end as u32));
+    let last = rules::name::text_place(base, r.end as u32).saturating_sub(1);
     if (r.start as u32) + 1 < (r.end as u32) {
         recorder::word::unit_at(text, last as usize) == 34
     } else {
@@ -167,9 +161,9 @@ fn ends_in_quote(text: &[u16], base: u32, r: Range) -> bool
 pub fn quoted_length(text: &[u16], base: u32, r: Range) -> u32
     ensures { result ≡ quoted_length text.now base r }
 {
-    let n = rules::name::less_one(rules::name::units(r));
+    let n = rules::name::units(r).saturating_sub(1);
     if ends_in_quote(text, base, r) {
-        rules::name::less_one(n)
+        n.saturating_sub(1)
     } else {
         n
     }
@@ -226,12 +220,12 @@ fn tab_note(notes: &mut [u32], st: &mut St, k: u32, fr: Range)
 fn arity_notes(notes: &mut [u32], st: &mut St, k: u32, n: u32, r: Range)
     ensures { (t l b : List ℕ) (base : ℕ) → mem l notes.new b st.new ≡ arity_notes (mem_r t) t base (signature_of k) n r (mem l notes.old b st.old) }
 {
-    let g = rules::tables::sig_of(k);
-    if n < rules::tables::min_args(g) {
+    let g = Sig::of_function(k);
+    if n < g.min_args() {
         recorder::codegen::note(notes, st, 6, r, 1);
         return;
     }
-    if rules::tables::max_args(g) < n {
+    if g.max_args() < n {
         recorder::codegen::note(notes, st, 7, r, 1);
         return;
     }
@@ -250,17 +244,16 @@ pub fn func_node(list: &mut [u32], st: &mut St, k: u32, n: u32, r: Range) -> Typ
     ensures { (t o b : List ℕ) (base : ℕ) → out (mem list.new o b st.new) result ≡ func_node (mem_r t) t base k n r (mem list.old o b st.old) }
 {
     recorder::codegen::emit_sys_func_call(list, st, r, k, n);
-    let ty = rules::tables::result_type(rules::tables::sig_of(k));
-    ty
+    Sig::of_function(k).result_type()
 }
 
 // A user function's call behind its argument: call 12.
-pub fn user_call(list: &mut [u32], st: &mut St, o: OptRange, r: Range, n: u32)
+pub fn user_call(list: &mut [u32], st: &mut St, o: Option<Range>, r: Range, n: u32)
     ensures { (t k b : List ℕ) (base : ℕ) → mem list.new k b st.new ≡ user_call (mem_r t) t base (opt_of o) r n (mem list.old k b st.old) }
 {
     match o {
-        OptRange::Given(_) => recorder::codegen::emit_user_func_call(list, st, r, n),
-        OptRange::Absent => {}
+        Some(_) => recorder::codegen::emit_user_func_call(list, st, r, n),
+        None => {}
     }
 }
 
@@ -268,7 +261,7 @@ fn like_type(k: u32, x: Type) -> Type
     ensures { result ≡ like_type k x }
 {
     if k == 6 {
-        rules::types::as_rvalue_type(x)
+        x.as_rvalue_type()
     } else {
         Type::Real
     }
@@ -304,7 +297,7 @@ fn like_node(
 ) -> Type
     ensures { (t b : List ℕ) (base : ℕ) → out (mem list.new notes.new b st.new) result ≡ like_node (mem_r t) t base k r o x y (mem list.old notes.old b st.old) }
 {
-    if rules::types::matches(x, y) {
+    if x.matches(y) {
         like_call(list, st, k, r, x);
         let ty = like_type(k, x);
         ty
@@ -381,20 +374,20 @@ pub fn index_node(
     book: &mut [u32],
     st: &mut St,
     base: u32,
-    o: OptRange,
+    o: Option<Range>,
     r: Range,
     n: u32,
 ) -> Type
     ensures { out (mem list.new notes.new book.new st.new) result ≡ index_node (mem_r text.now) text.now base (opt_of o) r n (mem list.old notes.old book.old st.old) }
 {
     match o {
-        OptRange::Given(nr) => {
+        Some(nr) => {
             let y = compile_sym(text, notes, book, st, base, nr);
             let ty = y.ty;
             recorder::codegen::emit_index(list, st, r, y.number, n);
             ty
         }
-        OptRange::Absent => Type::Error,
+        None => Type::Error,
     }
 }
 
@@ -406,18 +399,18 @@ pub fn index_place(
     book: &mut [u32],
     st: &mut St,
     base: u32,
-    o: OptRange,
+    o: Option<Range>,
     n: u32,
 ) -> Type
     ensures { out (mem list.new notes.new book.new st.new) result ≡ index_place (mem_r text.now) text.now base (opt_of o) n (mem list.old notes.old book.old st.old) }
 {
     match o {
-        OptRange::Given(nr) => {
+        Some(nr) => {
             let y = compile_sym(text, notes, book, st, base, nr);
             let ty = y.ty;
             recorder::codegen::emit_index_lvalue(list, st, nr, y.number, n);
             ty
         }
-        OptRange::Absent => Type::Error,
+        None => Type::Error,
     }
 }

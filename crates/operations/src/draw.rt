@@ -24,13 +24,13 @@ fn draw_node(
 )
     ensures { (t b : List ℕ) (base : ℕ) → mem list.new notes.new b st.new ≡ draw_node (mem_r t) t base k r (args_at sheet.now.now left n at) (mem list.old notes.old b st.old) }
 {
-    if n < rules::tables::draw_min(k) {
+    let arity = rules::tables::draw_arity(k);
+    if n < arity.min {
         recorder::codegen::note(notes, st, 6, r, 1);
         return;
     }
-    let max = rules::tables::draw_max(k);
-    if max < n {
-        expressions::surplus::surplus_notes(sheet, notes, st, at, n, max, left);
+    if arity.max < n {
+        expressions::surplus::surplus_notes(sheet, notes, st, at, n, arity.max, left);
         return;
     }
     recorder::codegen::emit_op(list, st, r, k, n)

@@ -15,10 +15,9 @@ use sheet::form::Shape;
 fn fits_note(notes: &mut [u32], st: &mut St, r: Range, fits: bool)
     ensures { (t l b : List ℕ) → mem l notes.new b st.new ≡ pick fits (mem l notes.old b st.old) ((mem_r t).note (mem l notes.old b st.old) 4 r 1) }
 {
-    if fits {
-        return;
+    if !fits {
+        recorder::codegen::note(notes, st, 4, r, 1)
     }
-    recorder::codegen::note(notes, st, 4, r, 1)
 }
 
 fn assign_call(list: &mut [u32], st: &mut St, r: Range, x: Type)
@@ -36,11 +35,12 @@ fn assign_call(list: &mut [u32], st: &mut St, r: Range, x: Type)
 fn assign_node(list: &mut [u32], notes: &mut [u32], st: &mut St, r: Range, x: Type, y: Type)
     ensures { (t b : List ℕ) (base : ℕ) → mem list.new notes.new b st.new ≡ assign_node (mem_r t) t base r x y (mem list.old notes.old b st.old) }
 {
-    let fits = rules::types::matches(x, y);
+    let fits = x.matches(y);
     fits_note(notes, st, r, fits);
     assign_call(list, st, r, x)
 }
 
+#[tactic(auto, unfolding(sheet::specs::Tree::stmt_node, rules::specs::Stmt::compile_stmt, sheet::specs::Skip::skip_fields, sheet::specs::Skip::skip_field, sheet::specs::Skip::skip_times, sheet::specs::Skip::skip_pair, sheet::specs::Skip::skip_item, rules::specs::Stmt::compile_let), using(expressions::proofs::Lists::place_same))]
 pub fn compile_let(
     sheet: &&[u32],
     text: &&[u16],
@@ -63,6 +63,7 @@ pub fn compile_let(
     y.at
 }
 
+#[tactic(auto, unfolding(sheet::specs::Tree::stmt_node, rules::specs::Stmt::compile_stmt, sheet::specs::Skip::skip_fields, sheet::specs::Skip::skip_field, sheet::specs::Skip::skip_times, sheet::specs::Skip::skip_pair, sheet::specs::Skip::skip_item, rules::specs::Stmt::compile_swap), using(expressions::proofs::Lists::place_same))]
 pub fn compile_swap(
     sheet: &&[u32],
     text: &&[u16],
@@ -81,7 +82,7 @@ pub fn compile_swap(
     let xt = x.ty;
     let y = expressions::expr::compile_lvalue(sheet, text, list, notes, book, st, base, x.at, left);
     let yt = y.ty;
-    let fits = rules::types::exact_matches(xt, yt);
+    let fits = xt.exact_matches(yt);
     fits_note(notes, st, r, fits);
     recorder::codegen::emit_op(list, st, r, 58, 2);
     y.at
@@ -103,19 +104,18 @@ fn read_each(
     ensures { ReadEach sheet.now.now text.now.now base left at n (mem list.old notes.old book.old st.old) (mem list.new notes.new book.new st.new) result }
 {
     let mut p = at;
-    let mut more = n;
-    while 0 < more {
+    for _ in 0..n {
         let x = expressions::expr::compile_lvalue(
             sheet, text, list, notes, book, st, base, p, left,
         );
         let r = expressions::expr::node_range(*sheet, p);
         recorder::codegen::emit_read(list, st, r);
         p = x.at;
-        more -= 1;
     }
     p
 }
 
+#[tactic(auto, unfolding(sheet::specs::Tree::stmt_node, rules::specs::Stmt::compile_stmt, sheet::specs::Skip::skip_fields, sheet::specs::Skip::skip_field, sheet::specs::Skip::skip_times, sheet::specs::Skip::skip_pair, sheet::specs::Skip::skip_item, rules::specs::Stmt::compile_read, sheet::specs::Skip::skip_list))]
 pub fn compile_read(
     sheet: &&[u32],
     text: &&[u16],

@@ -4,22 +4,19 @@ use mathlib.Core.List.{List, ◌∷◌}
 use mathlib.Core.Bool.{Bool, true, false}
 use Prim.Native.Nat.{ℕ, zero, suc, ◌-◌, ◌≤◌, ◌<◌}
 use lib.Dec.{T, eqb}
-use borrow.Author.Tests.{lt-ltb, le-ltb, ne_eqb}
+use borrow.Author.Tests.{le-ltb, ne_eqb}
 use native.Mathlib.Numerals.{sub-one}
 use native.Mathlib.Omega.{arith}
 use Rattle.recorder.specs.declared.word.Range.{Range}
 use Rattle.recorder.specs.Word.{pick, both, either, payload_at, range_at, next}
 use Rattle.recorder.specs.Mem.{Mem, mem_r}
-use Rattle.sheet.specs.declared.form.Sort.{Sort}
 use Rattle.sheet.specs.declared.form.Sort.TheVariants.{Expr as exprSort}
 use Rattle.sheet.specs.declared.form.Shape.TheVariants.{Print}
 use Rattle.sheet.specs.Table.{expr_fields}
-use Rattle.sheet.specs.Skip.{skip_node, skip_repeat, skip_list, skip_fields, skip_field, skip_times, skip_pair, skip_item, skip_element}
-use Rattle.sheet.specs.Tree.{Expr, sys_func_call, Stmt, PrintElement, value, semicolon, expr_range, expr_at, expr_node, items_at, element_at, element_of, stmt_node, args_at}
+use Rattle.sheet.specs.Skip.{skip_node, skip_repeat, skip_list, skip_fields, skip_field, skip_times, skip_pair, skip_item}
+use Rattle.sheet.specs.Tree.{Expr, sys_func_call, Stmt, PrintElement, value, expr_range, expr_at, expr_node, items_at, element_at, element_of, stmt_node, args_at}
 use Rattle.rules.specs.declared.types.«Type».{«Type» as Ty}
-use Rattle.rules.specs.declared.types.«Type».TheVariants.{Real}
 use Rattle.rules.specs.declared.tables.Wants.TheVariants.{Func}
-use Rattle.rules.specs.Types.{matches_type}
 use Rattle.rules.specs.Stmt.{compile_stmt, is_tab_spc, is_value, surplus_notes, tab_call, print_value, blank_between, behind_value, print_one, print_each, empty_line, compile_print}
 use Rattle.nodes.specs.Compiled.{Compiled, CompiledArgs, PayloadAt}
 use Rattle.expressions.specs.Body.{Body}
@@ -31,12 +28,6 @@ never : {X : Type 0} → false ≡ true → X
 never e = absurd (subst T (inv e) tt)
 
 -- TAB and SPC
-pub tab_is : (k : ℕ) → k ≡ 27 → true ≡ either (eqb k 27) (eqb k 28)
-tab_is k e = rw e
-
-pub spc_is : (k : ℕ) → (k ≡ 27 → ⊥) → eqb k 28 ≡ either (eqb k 27) (eqb k 28)
-spc_is k h = simp (ne_eqb _ _ h)
-
 pub tab_zero : (s : List ℕ) (left at : ℕ) → left ≡ 0 → false ≡ is_tab_spc (expr_at s left at)
 unfolding expr_at
 tab_zero s left at e = rw e
@@ -92,45 +83,10 @@ pub tab_other : (s : List ℕ) (left at k : ℕ) → k ≡ payload_at s at → (
 tab_other s left at k hk h = or_not (is_tab_spc (expr_at s left at)) (λ e. h (hk ∙ tab_three s left at e))
 
 -- calls
-pub print_number : (t : List ℕ) (r : Range) (ty : Ty) (b : Bool) (m m1 : Mem) → b ≡ matches_type ty Real → b ≡ true → m1 ≡ (mem_r t).emit m 38 r 0 0 0 → m1 ≡ print_call (mem_r t) r ty m
-print_number t r ty b m m1 h g p = let q : matches_type ty Real ≡ true = inv h ∙ g in rw q p
-
-pub print_text : (t : List ℕ) (r : Range) (ty : Ty) (b : Bool) (m m1 : Mem) → b ≡ matches_type ty Real → b ≡ false → m1 ≡ (mem_r t).emit m 39 r 0 0 0 → m1 ≡ print_call (mem_r t) r ty m
-print_text t r ty b m m1 h g p = let q : matches_type ty Real ≡ false = inv h ∙ g in rw q p
-
-pub emit_spc : (t : List ℕ) (r : Range) (k : ℕ) (m m1 : Mem) → k ≡ 28 → m1 ≡ (mem_r t).emit m 40 r 0 0 0 → m1 ≡ tab_emit (mem_r t) r k m
-emit_spc t r k m m1 e p = rw (e, p)
-
-pub emit_tab : (t : List ℕ) (r : Range) (k : ℕ) (m m1 : Mem) → (k ≡ 28 → ⊥) → m1 ≡ (mem_r t).emit m 41 r 0 0 0 → m1 ≡ tab_emit (mem_r t) r k m
-emit_tab t r k m m1 h p = let b : eqb k 28 ≡ false = ne_eqb _ _ h in rw b p
-
-pub blank_of : (t : List ℕ) (base : ℕ) (r : Range) (m m1 m2 : Mem) → m1 ≡ (mem_r t).emit m 3 r 129 2147483648 0 → m2 ≡ (mem_r t).emit m1 40 r 0 0 0 → m2 ≡ blank_between (mem_r t) t base r m
-blank_of t base r m m1 m2 p q = rw (q, p)
-
 -- what follows a value
-no_blank : (v b : Bool) → b ≡ true → false ≡ both v (pick b false true)
-no_blank true b e = rw e
-no_blank false b e = refl
-
-a_blank : (v b : Bool) → b ≡ false → v ≡ both v (pick b false true)
-a_blank true b e = rw e
-a_blank false b e = refl
-
-pub tabbed_none : (s : List ℕ) (at : ℕ) (b : Bool) → b ≡ true → false ≡ both (eqb (payload_at s at) 0) (pick b false true)
-tabbed_none s at b e = no_blank (eqb (payload_at s at) 0) b e
-
-pub blank_if : (s : List ℕ) (at k : ℕ) (b : Bool) → b ≡ false → k ≡ payload_at s at → eqb k 0 ≡ both (eqb (payload_at s at) 0) (pick b false true)
-blank_if s at k b e h = ap (λ z. eqb z 0) h ∙ a_blank (eqb (payload_at s at) 0) b e
-
-pub behind_last : (t : List ℕ) (b : Bool) (r er : Range) (n : ℕ) (v : Bool) (m m1 : Mem) → n < 2 → m1 ≡ (mem_r t).emit m 42 r 0 0 0 → m1 ≡ behind_call (mem_r t) b r er n v m
-behind_last t b r er n v m m1 h p = rw (lt-ltb _ _ h) p
-
 pub behind_blank : (t : List ℕ) (base : ℕ) (b : Bool) (r er : Range) (n : ℕ) (v w : Bool) (m m1 : Mem) → 2 ≤ n → w ≡ both v (pick b false true) → w ≡ true → m1 ≡ blank_between (mem_r t) t base er m
     → m1 ≡ behind_call (mem_r t) b r er n v m
 behind_blank t base b r er n v w m m1 h e g p = let q : both v (pick b false true) ≡ true = inv e ∙ g in rw (le-ltb _ _ h, q) p
-
-pub behind_plain : (t : List ℕ) (b : Bool) (r er : Range) (n : ℕ) (v w : Bool) (m : Mem) → 2 ≤ n → w ≡ both v (pick b false true) → w ≡ false → m ≡ behind_call (mem_r t) b r er n v m
-behind_plain t b r er n v w m h e g = let q : both v (pick b false true) ≡ false = inv e ∙ g in rw (le-ltb _ _ h, q)
 
 value_is : (s : List ℕ) (left : ℕ) (child : ℕ → Stmt) (k p : ℕ) → is_value (element_of s left child k p) ≡ eqb k 0
 value_is s left child zero p = refl
@@ -195,33 +151,6 @@ value_plain s t base left n r er at p b m m1 m2 m3 ty hr hb h x e f = record {
   result = λ child. plain_value t base r er (expr_at s left at) (items_at s (element_at s left child) (over_element s left) (n - 1) p) m m2 m3 (inv hb ∙ h) (hr ∙ inv (range_of_lem s left at)) (printed_is s t base left er at p m m1 m2 ty hr x e) (f ∙ behind_is s t base left child false r er (over_element s left) n p m2);
 }
 
-pub one_value : (s t : List ℕ) (base left n : ℕ) (r : Range) (at k q p : ℕ) (m m1 : Mem) → PayloadAt s at k q → k ≡ 0 → Valued s t base left n r q m m1 p → OnePrinted s t base left n r at m m1 p
-one_value s t base left n r at k q p m m1 c e x =
-    let g : payload_at s at ≡ 0 = inv c.value ∙ e in
-    record { place = rw (g, ← c.place) x.place; result = λ child. rw (g, ← c.place) (x.result child) }
-
-pub one_comma : (s t : List ℕ) (base left n : ℕ) (r er : Range) (at k q p : ℕ) (m m1 : Mem) → PayloadAt s at k q → k ≡ 1 → er ≡ range_at s q → m1 ≡ (mem_r t).emit m 42 er 0 0 0 → p ≡ next s q
-    → OnePrinted s t base left n r at m m1 p
-one_comma s t base left n r er at k q p m m1 c e hr f hp =
-    let g : payload_at s at ≡ 1 = inv c.value ∙ e in
-    record { place = rw (g, ← c.place) hp; result = λ child. rw (g, ← c.place, f, hr) }
-
-semicolon_is : (s : List ℕ) (left : ℕ) (child : ℕ → Stmt) (k p : ℕ) → (k ≡ 0 → ⊥) → (k ≡ 1 → ⊥) → element_of s left child k p ≡ semicolon (range_at s p)
-semicolon_is s left child zero p a b = absurd (a refl)
-semicolon_is s left child (suc zero) p a b = absurd (b refl)
-semicolon_is s left child (suc (suc k)) p a b = refl
-
-over_semicolon : (s : List ℕ) (c : Sort → ℕ → ℕ) (k p : ℕ) → (k ≡ 0 → ⊥) → skip_element s c k p ≡ next s p
-over_semicolon s c zero p a = absurd (a refl)
-over_semicolon s c (suc k) p a = refl
-
-pub one_semicolon : (s t : List ℕ) (base left n : ℕ) (r : Range) (at k q p : ℕ) (m : Mem) → PayloadAt s at k q → (k ≡ 0 → ⊥) → (k ≡ 1 → ⊥) → p ≡ next s q
-    → OnePrinted s t base left n r at m m p
-one_semicolon s t base left n r at k q p m c a b hp = record {
-  place = rw (← c.value, ← c.place, over_semicolon s (skip_node s left) k q a) hp;
-  result = λ child. rw (← c.value, ← c.place, semicolon_is s left child k q a b);
-}
-
 pub print_place : (s t : List ℕ) (base left n : ℕ) (r : Range) (at p : ℕ) (m m1 : Mem) → 0 < n → OnePrinted s t base left n r at m m1 p
     → skip_repeat s (over_element s left) (n - 1) p ≡ skip_repeat s (over_element s left) n at
 print_place s t base left n r at p m m1 h x = rw (repeat_step s (over_element s left) n at h, x.place)
@@ -244,12 +173,6 @@ pub print_end : (s t : List ℕ) (base left n k : ℕ) (r : Range) (at at₀ : �
 unfolding items_at print_each skip_repeat
 print_end s t base left zero k r at at₀ m m₀ h p q = record { place = p; result = q }
 print_end s t base left (suc n) k r at at₀ m m₀ h p q = absurd (omega arith)
-
-pub line_empty : (t : List ℕ) (n : ℕ) (r : Range) (m m1 : Mem) → n ≡ 0 → m1 ≡ (mem_r t).emit m 42 r 0 0 0 → m1 ≡ blank_line (mem_r t) n r m
-line_empty t n r m m1 e p = rw (e, p)
-
-pub line_full : (t : List ℕ) (n : ℕ) (r : Range) (m : Mem) → (n ≡ 0 → ⊥) → m ≡ blank_line (mem_r t) n r m
-line_full t n r m h = let b : eqb n 0 ≡ false = ne_eqb _ _ h in rw b
 
 empty_is : (s t : List ℕ) (base : ℕ) (r : Range) (f : ℕ → PrintElement) (g : ℕ → ℕ) (n at : ℕ) (m : Mem) → blank_line (mem_r t) n r m ≡ empty_line (mem_r t) t base r (items_at s f g n at) m
 unfolding items_at

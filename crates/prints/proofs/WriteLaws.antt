@@ -16,7 +16,6 @@ use Rattle.sheet.specs.Skip.{skip_node, skip_repeat, skip_list, skip_fields, ski
 use Rattle.sheet.specs.Tree.{Expr, WriteElement, expr_range, expr_at, items_at, stmt_node, write_element_at}
 use Rattle.rules.specs.declared.types.«Type».{«Type» as Ty}
 use Rattle.rules.specs.declared.types.«Type».TheVariants.{Real}
-use Rattle.rules.specs.Types.{matches_type}
 use Rattle.rules.specs.Expr.{compile_expr}
 use Rattle.rules.specs.Stmt.{compile_stmt, flag_of, is_last, write_value, write_each}
 use Rattle.nodes.specs.Compiled.{Compiled, CompiledTyped, PayloadAt}
@@ -24,30 +23,6 @@ use Rattle.expressions.specs.Body.{Body}
 use Rattle.expressions.proofs.Lists.{items_step, repeat_step}
 use Rattle.expressions.proofs.ExprLaws.{range_of_lem}
 use Rattle.prints.specs.Parts.{element, kept_call, dropped_call, WritesDone}
-
-pub last_kept : (n c : ℕ) → n ≡ 1 → true ≡ either (eqb n 1) (eqb c 1)
-last_kept n c e = rw e
-
-pub comma_kept : (n c : ℕ) → (n ≡ 1 → ⊥) → eqb c 1 ≡ either (eqb n 1) (eqb c 1)
-comma_kept n c h = simp (ne_eqb _ _ h)
-
-pub flag_end : (n : ℕ) → n ≡ 1 → 1 ≡ flag_of (eqb n 1)
-flag_end n e = rw e
-
-pub flag_between : (n : ℕ) → (n ≡ 1 → ⊥) → 0 ≡ flag_of (eqb n 1)
-flag_between n h = simp (ne_eqb _ _ h)
-
-pub kept_number : (t : List ℕ) (r : Range) (f e : ℕ) (ty : Ty) (b : Bool) (m m1 : Mem) → b ≡ matches_type ty Real → b ≡ true → m1 ≡ (mem_r t).emit m 44 r f e 0 → m1 ≡ kept_call (mem_r t) r f e ty m
-kept_number t r f e ty b m m1 h g p = let q : matches_type ty Real ≡ true = inv h ∙ g in rw q p
-
-pub kept_text : (t : List ℕ) (r : Range) (f e : ℕ) (ty : Ty) (b : Bool) (m m1 : Mem) → b ≡ matches_type ty Real → b ≡ false → m1 ≡ (mem_r t).emit m 45 r f e 0 → m1 ≡ kept_call (mem_r t) r f e ty m
-kept_text t r f e ty b m m1 h g p = let q : matches_type ty Real ≡ false = inv h ∙ g in rw q p
-
-pub dropped_number : (t : List ℕ) (r : Range) (ty : Ty) (b : Bool) (m m1 : Mem) → b ≡ matches_type ty Real → b ≡ true → m1 ≡ (mem_r t).emit m 46 r 0 0 0 → m1 ≡ dropped_call (mem_r t) r ty m
-dropped_number t r ty b m m1 h g p = let q : matches_type ty Real ≡ true = inv h ∙ g in rw q p
-
-pub dropped_text : (t : List ℕ) (r : Range) (ty : Ty) (b : Bool) (m m1 : Mem) → b ≡ matches_type ty Real → b ≡ false → m1 ≡ (mem_r t).emit m 47 r 0 0 0 → m1 ≡ dropped_call (mem_r t) r ty m
-dropped_text t r ty b m m1 h g p = let q : matches_type ty Real ≡ false = inv h ∙ g in rw q p
 
 pub value_kept : (t : List ℕ) (base f n c : ℕ) (r : Range) (ty : Ty) (e : Expr) (b : Bool) (end : ℕ) (m m1 : Mem) → b ≡ either (eqb n 1) (eqb c 1) → b ≡ true → end ≡ flag_of (eqb n 1)
     → m1 ≡ kept_call (mem_r t) r f end ty m → r ≡ expr_range e → m1 ≡ write_value (mem_r t) t base f (element e c) (eqb n 1) ty m

@@ -17,10 +17,11 @@ use sheet::form::Shape;
 fn tab_or_spc(k: u32) -> bool
     ensures { result ≡ either (eqb k 27) (eqb k 28) }
 {
-    if k == 27 { true } else { k == 28 }
+    k == 27 || k == 28
 }
 
 // Whether the expression at a place is TAB or SPC itself.
+#[tactic(auto, using(crate::proofs::PrintLaws::tab_zero, crate::proofs::PrintLaws::tab_func, crate::proofs::PrintLaws::tab_other))]
 fn is_tab_spc(sheet: &[u32], at: usize, left: usize) -> bool
     ensures { result ≡ is_tab_spc (expr_at sheet.now left at) }
 {
@@ -40,7 +41,7 @@ fn is_tab_spc(sheet: &[u32], at: usize, left: usize) -> bool
 fn print_call(list: &mut [u32], st: &mut St, r: Range, ty: Type)
     ensures { (t o b : List ℕ) → mem list.new o b st.new ≡ print_call (mem_r t) r ty (mem list.old o b st.old) }
 {
-    if rules::types::matches(ty, Type::Real) {
+    if ty.matches(Type::Real) {
         recorder::codegen::emit_print_num(list, st, r)
     } else {
         recorder::codegen::emit_print_str(list, st, r)
@@ -70,11 +71,7 @@ fn blank_between(list: &mut [u32], st: &mut St, r: Range)
 fn wants_blank(sheet: &[u32], at: usize, tabbed: bool) -> bool
     ensures { result ≡ both (eqb (payload_at sheet.now at) 0) (pick tabbed false true) }
 {
-    if tabbed {
-        false
-    } else {
-        recorder::word::payload_at(sheet, at) == 0
-    }
+    !tabbed && recorder::word::payload_at(sheet, at) == 0
 }
 
 // What follows an expression: `more` counts its element and those behind it, the next of which is at the place.
@@ -91,10 +88,8 @@ fn behind_value(
     ensures { (t o b : List ℕ) → mem list.new o b st.new ≡ behind_call (mem_r t) tabbed r er more (eqb (payload_at sheet.now.now at) 0) (mem list.old o b st.old) }
 {
     if more < 2 {
-        recorder::codegen::emit_newline(list, st, r);
-        return;
-    }
-    if wants_blank(*sheet, at, tabbed) {
+        recorder::codegen::emit_newline(list, st, r)
+    } else if wants_blank(*sheet, at, tabbed) {
         blank_between(list, st, er)
     }
 }
@@ -156,13 +151,13 @@ fn print_value(
         let p = recorder::word::behind(*sheet, recorder::word::behind(*sheet, at));
         let x = tab_call(sheet, text, list, notes, book, st, base, p, left - 1, er);
         behind_value(sheet, list, st, x, more, true, er, r);
-        return x;
+        x
+    } else {
+        let x = expressions::expr::compile_expr(sheet, text, list, notes, book, st, base, at, left);
+        print_call(list, st, er, x.ty);
+        behind_value(sheet, list, st, x.at, more, false, er, r);
+        x.at
     }
-    let x = expressions::expr::compile_expr(sheet, text, list, notes, book, st, base, at, left);
-    let xt = x.ty;
-    print_call(list, st, er, xt);
-    behind_value(sheet, list, st, x.at, more, false, er, r);
-    x.at
 }
 
 // One element: `more` counts it and those behind it.
@@ -212,10 +207,8 @@ fn print_each(
     ensures { Printed sheet.now.now text.now.now base left n r at (mem list.old notes.old book.old st.old) (mem list.new notes.new book.new st.new) result }
 {
     let mut p = at;
-    let mut more = n;
-    while 0 < more {
-        p = print_one(sheet, text, list, notes, book, st, base, p, left, more, r);
-        more -= 1;
+    for i in 0..n {
+        p = print_one(sheet, text, list, notes, book, st, base, p, left, n - i, r);
     }
     p
 }

@@ -16,7 +16,7 @@ use sheet::form::Shape;
 fn is_kept(more: u32, comma: u32) -> bool
     ensures { result ≡ either (eqb more 1) (eqb comma 1) }
 {
-    if more == 1 { true } else { comma == 1 }
+    more == 1 || comma == 1
 }
 
 fn end_flag(more: u32) -> u32
@@ -29,7 +29,7 @@ fn end_flag(more: u32) -> u32
 fn kept_call(list: &mut [u32], st: &mut St, r: Range, file: u32, end: u32, ty: Type)
     ensures { (t o b : List ℕ) → mem list.new o b st.new ≡ kept_call (mem_r t) r file end ty (mem list.old o b st.old) }
 {
-    if rules::types::matches(ty, Type::Real) {
+    if ty.matches(Type::Real) {
         recorder::codegen::emit_write_num(list, st, r, file, end)
     } else {
         recorder::codegen::emit_write_str(list, st, r, file, end)
@@ -40,7 +40,7 @@ fn kept_call(list: &mut [u32], st: &mut St, r: Range, file: u32, end: u32, ty: T
 fn dropped_call(list: &mut [u32], st: &mut St, r: Range, ty: Type)
     ensures { (t o b : List ℕ) → mem list.new o b st.new ≡ dropped_call (mem_r t) r ty (mem list.old o b st.old) }
 {
-    if rules::types::matches(ty, Type::Real) {
+    if ty.matches(Type::Real) {
         recorder::codegen::emit_pop_num(list, st, r)
     } else {
         recorder::codegen::emit_pop_str(list, st, r)
@@ -86,15 +86,12 @@ fn write_each(
     ensures { WritesDone sheet.now.now text.now.now base left file n at (mem list.old notes.old book.old st.old) (mem list.new notes.new book.new st.new) result }
 {
     let mut p = at;
-    let mut more = n;
-    while 0 < more {
+    for i in 0..n {
         let x = expressions::expr::compile_expr(sheet, text, list, notes, book, st, base, p, left);
-        let xt = x.ty;
         let c = expressions::expr::read_payload(*sheet, x.at);
         let r = expressions::expr::node_range(*sheet, p);
-        write_value(list, notes, st, file, more, c.value, r, xt);
+        write_value(list, notes, st, file, n - i, c.value, r, x.ty);
         p = c.at;
-        more -= 1;
     }
     p
 }

@@ -5,9 +5,9 @@ ghost use Rattle.rules.specs.Program.{last_label, label_note};
 ghost use Rattle.jumps.specs.Parts.{target_of};
 ghost use Rattle.program.specs.Line.{line_work, line_count, CompiledLine, Programmed};
 
-use jumps::jump::OptTarget;
 use recorder::codegen::St;
-use recorder::label::Addr;
+use recorder::label::{Addr, Label};
+use recorder::word::Range;
 
 // How far the lines are compiled: where the next one is, how many labelled ones there are so far, the last label plus 1 (0 before
 // the first), and where the next line begins in the text.
@@ -20,38 +20,37 @@ pub struct Lines {
 }
 
 // "1 labels not rising"
-fn label_note(notes: &mut [u32], st: &mut St, last: u32, o: OptTarget)
+fn label_note(notes: &mut [u32], st: &mut St, last: u32, o: Option<(Range, Label)>)
     ensures { (t l b : List ℕ) (base : ℕ) → mem l notes.new b st.new ≡ label_note (mem_r t) t base last (target_of o) (mem l notes.old b st.old) }
 {
-    let OptTarget::Given(r, l) = o else {
-        return;
-    };
-    if (l.0 as u32) < last {
-        recorder::codegen::note(notes, st, 1, r, 1);
-        return;
+    if let Some((r, l)) = o {
+        if (l.0 as u32) < last {
+            recorder::codegen::note(notes, st, 1, r, 1)
+        }
     }
 }
 
 // A labelled line goes into work: the address before its records, and the first datum that it made. Returns how many there are.
-fn mark_line(work: &mut [u32], n: usize, o: OptTarget, addr: Addr, first: u32) -> usize
+fn mark_line(work: &mut [u32], n: usize, o: Option<(Range, Label)>, addr: Addr, first: u32) -> usize
     ensures { (work.new ≡ line_work (target_of o) addr.0 first work.old n) × (result ≡ line_count (target_of o) work.old n) }
 {
-    let OptTarget::Given(_, l) = o else {
-        return n;
-    };
-    labels::marks::put_mark(work, n, l, addr, first)
+    match o {
+        Some((_, l)) => labels::marks::put_mark(work, n, l, addr, first),
+        None => n,
+    }
 }
 
-fn last_label(last: u32, o: OptTarget) -> u32
+fn last_label(last: u32, o: Option<(Range, Label)>) -> u32
     ensures { result ≡ last_label last (target_of o) }
 {
-    let OptTarget::Given(_, l) = o else {
-        return last;
-    };
-    (l.0 as u32) + 1
+    match o {
+        Some((_, l)) => (l.0 as u32) + 1,
+        None => last,
+    }
 }
 
 // One line: its length, its label, its statements.
+#[tactic(auto, unfolding(rules::specs::Program::compile_line))]
 fn compile_line(
     sheet: &&[u32],
     text: &&[u16],
@@ -104,10 +103,8 @@ pub fn compile_prog(
         last: 0,
         base: 0,
     };
-    let mut line: u32 = 0;
-    while line < count {
+    for line in 0..count {
         c = compile_line(&sheet, &text, list, notes, book, work, st, c, line);
-        line += 1;
     }
     c.marks
 }

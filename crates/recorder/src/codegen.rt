@@ -98,19 +98,6 @@ pub fn begin_line(st: &mut St, line: u32)
     st[FIRST] = 0;
 }
 
-pub fn least(a: usize, b: usize) -> usize
-    ensures { result ≡ min a b }
-{
-    if a < b { a } else { b }
-}
-
-// The difference, or 0.
-fn less(a: usize, b: usize) -> usize
-    ensures { result ≡ a - b }
-{
-    if b < a { a - b } else { 0 }
-}
-
 // So many records fit into so many words.
 pub fn most_records(words: usize) -> usize
     ensures { result ≡ most_records words }
@@ -125,6 +112,7 @@ fn low_bits(n: usize) -> u32
     (n % 16777216) as u32
 }
 
+#[tactic(auto, unfolding(crate::specs::Mem::more))]
 fn one_more(n: usize, room: usize) -> usize
     ensures { result ≡ more n room }
 {
@@ -132,6 +120,7 @@ fn one_more(n: usize, room: usize) -> usize
 }
 
 // A record: its call, the current line, its range, three arguments.
+#[tactic(auto, unfolding(crate::specs::Mem::put_list, crate::specs::Mem::put_st))]
 pub fn put(list: &mut [u32], st: &mut St, call: u8, r: Range, a: u32, b: u32, c: u32)
     ensures { (list.new ≡ put_rec list.old st.old call r a b c) × (st.new ≡ put_st list.old st.old) }
 {
@@ -167,6 +156,7 @@ fn put_four(s: &mut [u32], n: usize, h: u32, x: u32, y: u32, z: u32) -> bool
     }
 }
 
+#[tactic(auto, unfolding(crate::specs::Mem::note_list, crate::specs::Mem::note_st))]
 pub fn put_note(notes: &mut [u32], st: &mut St, h: u32, w: u32, severity: u32)
     ensures { (notes.new ≡ note_list notes.old st.old h w severity) × (st.new ≡ note_st notes.old st.old) }
 {
@@ -196,6 +186,7 @@ pub fn note_at(notes: &mut [u32], st: &mut St, line: u32, class: u8, r: Range, s
     put_note(notes, st, h, w, severity)
 }
 
+#[tactic(auto, unfolding(crate::specs::Mem::entry_list, crate::specs::Mem::entry_st))]
 fn put_entry(book: &mut [u32], st: &mut St, h: u32, x: u32, y: u32, z: u32)
     ensures { (book.new ≡ entry_list book.old st.old h x y z) × (st.new ≡ entry_st book.old st.old) }
 {
@@ -210,13 +201,7 @@ fn put_entry(book: &mut [u32], st: &mut St, h: u32, x: u32, y: u32, z: u32)
 fn to_ascii_uppercase(x: u16) -> u16
     ensures { result ≡ upper x }
 {
-    if x < 97 {
-        return x;
-    }
-    if 122 < x {
-        return x;
-    }
-    x - 32
+    if matches!(x, 97..=122) { x - 32 } else { x }
 }
 
 fn same_units(text: &[u16], a: usize, b: usize, n: u32) -> bool
@@ -224,42 +209,33 @@ fn same_units(text: &[u16], a: usize, b: usize, n: u32) -> bool
 {
     let mut p = a;
     let mut q = b;
-    let mut left = n;
-    while 0 < left {
+    for _ in 0..n {
         if to_ascii_uppercase(unit_at(text, p)) != to_ascii_uppercase(unit_at(text, q)) {
             return false;
         }
         p = behind_unit(text, p);
         q = behind_unit(text, q);
-        left -= 1;
     }
     true
 }
 
 // Lengths and sigils first: the units are read only where both agree, and the first that differs ends it.
+#[tactic(auto, unfolding(crate::specs::Name::same_name))]
 fn same_name(text: &[u16], a: u32, n: u32, x: u32, b: u32, m: u32, y: u32) -> bool
     ensures { result ≡ same_name text.now a n x b m y }
 {
-    if n != m {
-        return false;
-    }
-    if x != y {
-        return false;
-    }
-    same_units(&*text, a as usize, b as usize, n)
+    n == m && x == y && same_units(&*text, a as usize, b as usize, n)
 }
 
 // A name's last word: a code of its sigil in the low 2 bits, and two entries of later names.
 fn sigil_code(g: u32) -> u32
     ensures { result ≡ sigil_code g }
 {
-    if g == 36 {
-        return 1;
+    match g {
+        36 => 1,
+        37 => 2,
+        _ => 0,
     }
-    if g == 37 {
-        return 2;
-    }
-    0
 }
 
 fn link_of(high: bool, w: u32) -> u32
@@ -292,11 +268,9 @@ fn hash_of(text: &[u16], at: u32, first: u32, n: u32) -> u32
 {
     let mut p = at as usize;
     let mut h = first;
-    let mut left = n;
-    while 0 < left {
+    for _ in 0..n {
         h = hash_step(h, to_ascii_uppercase(unit_at(text, p)));
         p = behind_unit(text, p);
-        left -= 1;
     }
     h
 }
@@ -328,10 +302,7 @@ fn is_named(
 ) -> bool
     ensures { result ≡ is_name_entry text.now h a n y tag start len sigil }
 {
-    if kind_of(h) != tag as u32 {
-        return false;
-    }
-    same_name(&*text, a, n, y % 4, start, len, sigil_code(sigil))
+    kind_of(h) == tag as u32 && same_name(&*text, a, n, y % 4, start, len, sigil_code(sigil))
 }
 
 fn named_at(text: &[u16], book: &[u32], k: usize, tag: u8, start: u32, len: u32, sigil: u32) -> bool
@@ -367,20 +338,17 @@ fn find(
 ) -> usize
     ensures { result ≡ lookup text.now book.now start len sigil from (min entries (length book.now / entry_size) - from) }
 {
-    let mut k: usize = from;
-    let mut left = less(least(entries, book.len() / ENTRY), from);
-    if left == 0 {
-        return k;
+    let end = entries.min(book.len() / ENTRY);
+    if end <= from {
+        return from;
     }
     let tag = name_tag(&*text, start, len, sigil);
-    while 0 < left {
-        left -= 1;
+    for k in from..end {
         if named_at(&*text, &*book, k, tag, start, len, sigil) {
             return k;
         }
-        k += 1;
     }
-    k
+    end
 }
 
 fn is_high(bits: u32) -> bool
@@ -410,16 +378,14 @@ fn child_of(book: &[u32], at: usize, bits: u32) -> usize
 fn descent_to(text: &[u16], book: &[u32], st: &St, start: u32, len: u32, sigil: u32) -> Stop
     ensures { (result.descent ≡ descent_to text.now book.now st.now start len sigil) × (result.named ≡ named_at text.now book.now result.descent.at start len sigil) × (result.tag ≡ name_tag text.now start len sigil) }
 {
-    let end = least(st[ENTRIES], book.len() / ENTRY);
-    let mut at = less(st[ROOT], 1);
+    let end = st[ENTRIES].min(book.len() / ENTRY);
+    let mut at = st[ROOT].saturating_sub(1);
     let hash = hash_of(&*text, start, sigil_code(sigil), len);
     let tag = tag_of(hash);
     let mut bits = hash;
-    let mut left = end;
-    while 0 < left {
-        left -= 1;
+    for _ in 0..end {
+        let descent = Descent { at, bits };
         if named_at(&*text, &*book, at, tag, start, len, sigil) {
-            let descent = Descent { at, bits };
             return Stop {
                 descent,
                 named: true,
@@ -427,16 +393,7 @@ fn descent_to(text: &[u16], book: &[u32], st: &St, start: u32, len: u32, sigil: 
             };
         }
         let k = child_of(&*book, at, bits);
-        if k <= at {
-            let descent = Descent { at, bits };
-            return Stop {
-                descent,
-                named: false,
-                tag,
-            };
-        }
-        if end <= k {
-            let descent = Descent { at, bits };
+        if k <= at || end <= k {
             return Stop {
                 descent,
                 named: false,
@@ -446,11 +403,9 @@ fn descent_to(text: &[u16], book: &[u32], st: &St, start: u32, len: u32, sigil: 
         at = k;
         bits = next_bits(bits);
     }
-    let descent = Descent { at, bits };
-    let named = named_at(&*text, &*book, at, tag, start, len, sigil);
     Stop {
-        descent,
-        named,
+        descent: Descent { at, bits },
+        named: named_at(&*text, &*book, at, tag, start, len, sigil),
         tag,
     }
 }
@@ -458,25 +413,21 @@ fn descent_to(text: &[u16], book: &[u32], st: &St, start: u32, len: u32, sigil: 
 fn may_link(entries: usize, room: usize) -> bool
     ensures { result ≡ both (ltb entries room) (ltb entries 32768) }
 {
-    if entries < room {
-        entries < 32768
-    } else {
-        false
-    }
+    entries < room && entries < 32768
 }
 
 fn root_of(root: usize, entries: usize, room: usize) -> usize
     ensures { result ≡ pick (both (eqb root 0) (both (ltb entries room) (ltb entries 32768))) (entries + 1) root }
 {
-    if root == 0 {
-        if may_link(entries, room) {
-            return entries + 1;
-        }
+    if root == 0 && may_link(entries, room) {
+        entries + 1
+    } else {
+        root
     }
-    root
 }
 
 // A new name, linked where its descent ends.
+#[tactic(auto, unfolding(crate::specs::Mem::linked_at))]
 fn link(book: &mut [u32], at: usize, bits: u32, k: usize)
     ensures { book.new ≡ linked_at book.old k (record { at = at; bits = bits }) }
 {
@@ -487,6 +438,7 @@ fn link(book: &mut [u32], at: usize, bits: u32, k: usize)
 }
 
 // The same, where there is a tree and it may hold the next entry.
+#[tactic(auto, unfolding(crate::specs::Mem::linked))]
 fn link_next(book: &mut [u32], st: &St, at: usize, bits: u32)
     ensures { book.new ≡ linked book.old st.now (record { at = at; bits = bits }) }
 {
@@ -501,16 +453,11 @@ fn link_next(book: &mut [u32], st: &St, at: usize, bits: u32)
 fn is_reached(root: usize, known: usize, at: usize, named: bool) -> bool
     ensures { result ≡ both (ltb 0 root) (both (ltb at known) named) }
 {
-    if root == 0 {
-        return false;
-    }
-    if known <= at {
-        return false;
-    }
-    named
+    root != 0 && at < known && named
 }
 
 // The entry of a name whose descent ends at `at`, or how many are known.
+#[tactic(auto, unfolding(crate::specs::Mem::entry_of))]
 fn entry_of(
     text: &[u16],
     book: &[u32],
@@ -523,7 +470,7 @@ fn entry_of(
 ) -> usize
     ensures { result ≡ pick (both (ltb 0 (root_in st.now)) (both (ltb at (known book.now st.now)) named)) at (lookup text.now book.now start len sigil (min (known book.now st.now) 32768) (known book.now st.now - 32768)) }
 {
-    let end = least(st[ENTRIES], book.len() / ENTRY);
+    let end = st[ENTRIES].min(book.len() / ENTRY);
     if is_reached(st[ROOT], end, at, named) {
         return at;
     }
@@ -533,13 +480,14 @@ fn entry_of(
         start,
         len,
         sigil,
-        least(end, 32768),
+        end.min(32768),
         st[ENTRIES],
     )
 }
 
 // The search for a name. Slices go on as `&*` here and in what it calls: a copied one is written in two parts and read as one, for
 // which the processor waits.
+#[tactic(auto, unfolding(crate::specs::Mem::entry_of))]
 fn find_symbol(text: &[u16], book: &[u32], st: &St, start: u32, len: u32, sigil: u32) -> Found
     ensures { (result.descent ≡ descent_to text.now book.now st.now start len sigil) × (result.entry ≡ entry_of text.now book.now st.now start len sigil) × (result.tag ≡ name_tag text.now start len sigil) }
 {
@@ -555,6 +503,7 @@ fn find_symbol(text: &[u16], book: &[u32], st: &St, start: u32, len: u32, sigil:
 }
 
 // A new name: linked where its descent ends, and put into the book.
+#[tactic(auto, unfolding(crate::specs::Mem::entry_list, crate::specs::Mem::entry_st, crate::specs::Mem::root_of))]
 fn new_symbol(
     book: &mut [u32],
     st: &mut St,
@@ -586,6 +535,7 @@ fn new_symbol(
 }
 
 // The symbol of a name, which is put into the book where it is new.
+#[tactic(auto, unfolding(crate::specs::Mem::symbol_number, crate::specs::Mem::symbol_list, crate::specs::Mem::symbol_st))]
 pub fn make_symbol(
     text: &[u16],
     book: &mut [u32],
@@ -599,7 +549,7 @@ pub fn make_symbol(
     let f = find_symbol(&*text, book, st, start, len, sigil);
     let descent = f.descent;
     let k = f.entry;
-    if k < least(st[ENTRIES], book.len() / ENTRY) {
+    if k < st[ENTRIES].min(book.len() / ENTRY) {
         let found = payload_at(book, ENTRY * k);
         return found;
     }
@@ -613,6 +563,7 @@ fn first_of(first: usize, n: usize) -> usize
 }
 
 // A datum: where it stands in the text, and whether it was quoted.
+#[tactic(auto, unfolding(crate::specs::Mem::datum_list, crate::specs::Mem::datum_st))]
 pub fn emit_datum(book: &mut [u32], st: &mut St, start: u32, len: u32, quoted: u32)
     ensures { (book.new ≡ datum_list book.old st.old start len quoted) × (st.new ≡ datum_st book.old st.old) }
 {
@@ -625,6 +576,7 @@ pub fn emit_datum(book: &mut [u32], st: &mut St, start: u32, len: u32, quoted: u
 }
 
 // A byte of a LOAD: its literal and its value.
+#[tactic(auto, unfolding(crate::specs::Mem::byte_list, crate::specs::Mem::byte_st))]
 pub fn load_byte(book: &mut [u32], st: &mut St, start: u32, len: u32, value: u32)
     ensures { (book.new ≡ byte_list book.old st.old start len value) × (st.new ≡ byte_st book.old st.old) }
 {
@@ -694,6 +646,7 @@ fn settle_args(part: &mut [u32], v: u32)
 }
 
 // A jump's target: argument a of the record at an address.
+#[tactic(auto, unfolding(crate::specs::Mem::on_rec, crate::specs::Mem::at_rec, crate::specs::Mem::part))]
 pub fn patch_jump_addr(list: &mut [u32], st: &St, at: Addr, target: Addr)
     ensures { list.new ≡ on_rec (set_a target.0) list.old st.now at.0 }
 {
@@ -709,6 +662,7 @@ pub fn patch_jump_addr(list: &mut [u32], st: &St, at: Addr, target: Addr)
 }
 
 // A DEF's end: argument c.
+#[tactic(auto, unfolding(crate::specs::Mem::on_rec, crate::specs::Mem::at_rec, crate::specs::Mem::part))]
 pub fn patch_def_end(list: &mut [u32], st: &St, at: Addr, end: Addr)
     ensures { list.new ≡ on_rec (set_c end.0) list.old st.now at.0 }
 {
@@ -723,6 +677,7 @@ pub fn patch_def_end(list: &mut [u32], st: &St, at: Addr, end: Addr)
     }
 }
 
+#[tactic(auto, unfolding(crate::specs::Mem::on_rec, crate::specs::Mem::at_rec, crate::specs::Mem::part))]
 fn settle_at(list: &mut [u32], st: &St, k: u32, v: u32)
     ensures { list.new ≡ on_rec (settle_args v) list.old st.now k }
 {
@@ -750,6 +705,7 @@ pub fn patch_datum_index(list: &mut [u32], st: &St, at: Addr, index: DatumIndex)
 }
 
 // One whose label is nowhere: only its label is gone.
+#[tactic(auto, unfolding(crate::specs::Mem::on_rec, crate::specs::Mem::at_rec, crate::specs::Mem::part))]
 pub fn drop_label(list: &mut [u32], st: &St, at: Addr)
     ensures { list.new ≡ on_rec clear_args list.old st.now at.0 }
 {
@@ -780,11 +736,7 @@ pub fn look(list: &[u32], at: Addr) -> Looked
 pub fn clear(s: &mut [u32])
     ensures { s.new ≡ replicate (length s.old) 0 }
 {
-    let mut i = 0;
-    while i < s.len() {
-        s[i] = 0;
-        i += 1;
-    }
+    s.fill(0);
 }
 
 // Calls 1 to 47, by document 01's table. A target or an end that is not yet known is all ones. A pending jump or RESTORE keeps its

@@ -48,6 +48,7 @@ pub fn payload_at(s: &[u32], at: usize) -> u32
 }
 
 // The place behind a word; the end stays.
+#[tactic(auto, unfolding(crate::specs::Word::next))]
 pub fn behind(s: &[u32], at: usize) -> usize
     ensures { result ≡ next s.now at }
 {
@@ -62,6 +63,7 @@ pub fn unit_at(t: &[u16], at: usize) -> u16
 }
 
 // The place behind a unit; the end stays.
+#[tactic(auto, unfolding(crate::specs::Word::next))]
 pub fn behind_unit(t: &[u16], at: usize) -> usize
     ensures { result ≡ next t.now at }
 {

@@ -1,116 +1,111 @@
-// Reads inputs in the replay format from standard input, back to back, and prints each one's whole answer.
-// An input is six counts (words, units, and the lengths of list, notes, book and work in words), then the words and the units.
-// An answer is a line of five numbers, then a line for each record, note and book entry.
+// Reads inputs in the replay format from standard input, back to back, and prints each one's whole answer: a line of five
+// numbers, then a line for each record, note and book entry.
 #![tactic(auto)]
 
-use compiler::Answer;
+ghost use Rattle.std.specs.Prelude.{OnOk};
+ghost use Rattle.std.specs.Io.KnownBytes.{Appends};
+ghost use Rattle.feed.specs.Text.{line_of};
+ghost use Rattle.replay.specs.Text.{counts_text, answer_text};
+
+use compiler::{Answer, Sizes};
+use feed::Input;
+use std::alloc::{AllocError, Global};
 use std::io;
 use std::io::{BufReader, BufWriter, Write};
 
-fn show<W: Write>(
+// What is lent to be written. An accepted sheet of 65,536 words has at most 65,535 records, 2 notes a word and 1 entry a word.
+#[derive(Drop)]
+struct Buffers {
+    list: Vec<u32>,
+    notes: Vec<u32>,
+    book: Vec<u32>,
+    work: Vec<u32>,
+}
+
+impl Buffers {
+    fn new(alloc: Global) -> Result<Self, AllocError> {
+        Ok(Buffers {
+            list: vec![in alloc; 0; 327680]?,
+            notes: vec![in alloc; 0; 524288]?,
+            book: vec![in alloc; 0; 262144]?,
+            work: vec![in alloc; 0; 65537]?,
+        })
+    }
+
+    // Prints the answer to an input. The counts are those of the input; a buffer that it asks to be longer is lent whole, and no
+    // answer outgrows it.
+    fn answer<W: Write>(&mut self, out: &mut W, input: Input<'_>) -> io::Result<()> {
+        let counts = input.counts;
+        let list = front(&mut self.list, counts.list);
+        let notes = front(&mut self.notes, counts.notes);
+        let book = front(&mut self.book, counts.book);
+        let work = front(&mut self.work, counts.work);
+        let answer = compiler::compile(input.words, input.units, list, notes, book, work);
+        print_answer(out, answer, list, notes, book)
+    }
+}
+
+// The front of a buffer, as long as the count says, or the whole buffer where it is shorter.
+fn front(buffer: &mut [u32], count: u32) -> &mut [u32] {
+    let fitting = feed::least(count, buffer.len());
+    &mut buffer[..fitting]
+}
+
+// An answer's five numbers on a line.
+fn print_counts<W: Write>(out: &mut W, refusal: u32, place: usize, sizes: &Sizes) -> io::Result<()>
+    ensures { OnOk result (Appends (W.contents out.old) (W.contents out.new)
+        (line_of (counts_text refusal place sizes.now.records sizes.now.notes sizes.now.entries))) }
+{
+    writeln!(
+        out,
+        "answer {} {} {} {} {}",
+        refusal, place, sizes.records, sizes.notes, sizes.entries
+    )
+}
+
+// The answer's numbers on a line, and then each record, note and entry.
+fn print_answer<W: Write>(
     out: &mut W,
-    r: Answer,
+    answer: Answer,
     list: &[u32],
     notes: &[u32],
     book: &[u32],
-) -> io::Result<()> {
-    feed::print(out, b"answer")?;
-    feed::print_next(out, r.refusal)?;
-    feed::print_size(out, r.place)?;
-    feed::print_next(out, r.records)?;
-    feed::print_size(out, r.notes)?;
-    feed::print_size(out, r.entries)?;
-    feed::print(out, b"\n")?;
-    feed::print_rows(out, b"r", list, 5, r.records as usize)?;
-    feed::print_rows(out, b"n", notes, 4, r.notes)?;
-    feed::print_rows(out, b"b", book, 4, r.entries)
-}
-
-// The counts are those of the input; a buffer longer than its array is as long as the array, which no answer outgrows.
-fn answer<W: Write>(
-    out: &mut W,
-    words: &[u32],
-    units: &[u16],
-    list: &mut [u32],
-    notes: &mut [u32],
-    book: &mut [u32],
-    work: &mut [u32],
-    counts: &[u32; 6],
-) -> io::Result<()> {
-    let a = feed::least(counts[0], words.len());
-    let b = feed::least(counts[1], units.len());
-    let c = feed::least(counts[2], list.len());
-    let d = feed::least(counts[3], notes.len());
-    let e = feed::least(counts[4], book.len());
-    let f = feed::least(counts[5], work.len());
-    let r = compiler::compile(
-        &words[..a],
-        &units[..b],
-        &mut list[..c],
-        &mut notes[..d],
-        &mut book[..e],
-        &mut work[..f],
-    );
-    show(out, r, list, notes, book)
-}
-
-// Reads one input and answers it; false if the input ends before.
-fn one<R: io::Read, W: Write>(
-    input: &mut R,
-    out: &mut W,
-    words: &mut [u32],
-    units: &mut [u16],
-    list: &mut [u32],
-    notes: &mut [u32],
-    book: &mut [u32],
-    work: &mut [u32],
-) -> io::Result<bool> {
-    let mut counts = [0u32; 6];
-    if !feed::read_words(input, &mut counts, 6)? {
-        return Ok(false);
-    }
-    if !feed::read_words(input, words, counts[0])? {
-        return Ok(false);
-    }
-    if !feed::read_units(input, units, counts[1])? {
-        return Ok(false);
-    }
-    answer(out, words, units, list, notes, book, work, &counts)?;
-    Ok(true)
-}
-
-// Nothing says that the input ends, so the turns are counted up to a number that no run uses up.
-fn run<R: io::Read, W: Write>(
-    input: &mut R,
-    out: &mut W,
-    words: &mut [u32],
-    units: &mut [u16],
-    list: &mut [u32],
-    notes: &mut [u32],
-    book: &mut [u32],
-    work: &mut [u32],
-) -> io::Result<()> {
-    for _ in 0..u64::MAX {
-        if !one(input, out, words, units, list, notes, book, work)? {
-            break;
+) -> io::Result<()>
+    ensures { OnOk result (Appends (W.contents out.old) (W.contents out.new)
+        (answer_text answer list.now notes.now book.now)) }
+{
+    match answer {
+        Ok(sizes) => {
+            print_counts(out, 0, 0, &sizes)?;
+            feed::print_rows(out, "r", list.as_chunks::<5>().0, sizes.records as usize)?;
+            feed::print_rows(out, "n", notes.as_chunks::<4>().0, sizes.notes)?;
+            feed::print_rows(out, "b", book.as_chunks::<4>().0, sizes.entries)
+        }
+        Err(refusal) => {
+            let none = Sizes {
+                records: 0,
+                notes: 0,
+                entries: 0,
+            };
+            print_counts(out, refusal.number(), refusal.place(), &none)
         }
     }
-    Ok(())
 }
 
-// Sheet and text are one longer than what is accepted, so too much is told as such. An accepted sheet of 65,536 words has at
-// most 65,535 records, 2 notes a word and 1 entry a word. So much stands on the heap.
+// Sheet and text are one longer than what is accepted, so too much is told as such. So much stands on the heap. Nothing says that
+// the input ends, so the turns are counted up to a number that no run uses up.
 fn main(rt: HostRuntime) -> io::Result<()> {
     let mut words = vec![in rt.alloc(); 0u32; 65537]?;
     let mut units = vec![in rt.alloc(); 0u16; 65537]?;
-    let mut list = vec![in rt.alloc(); 0u32; 327680]?;
-    let mut notes = vec![in rt.alloc(); 0u32; 524288]?;
-    let mut book = vec![in rt.alloc(); 0u32; 262144]?;
-    let mut work = vec![in rt.alloc(); 0u32; 65537]?;
+    let mut buffers = Buffers::new(rt.alloc())?;
     let mut input = BufReader::new(rt.alloc(), rt.reader())?;
     let mut out = BufWriter::new(rt.alloc(), io::writer(&rt))?;
-    run(
-        &mut input, &mut out, &mut words, &mut units, &mut list, &mut notes, &mut book, &mut work,
-    )?;
+    for _ in 0..u64::MAX {
+        let next = Input::read(&mut input, &mut words, &mut units);
+        let Some(next) = feed::unless_ended(next)? else {
+            break;
+        };
+        buffers.answer(&mut out, next)?;
+    }
     out.flush()
 }

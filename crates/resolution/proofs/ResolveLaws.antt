@@ -6,42 +6,26 @@ use Prim.Native.Nat.{ℕ, suc, ◌+◌, ◌-◌, ◌≤◌, ◌<◌}
 use lib.Dec.{ltb, eqb}
 use borrow.Author.Tests.{lt-ltb, eq-eqb, ne_eqb}
 use native.Mathlib.Omega.{arith}
-use Rattle.recorder.specs.declared.word.Range.{Range}
 use Rattle.recorder.specs.declared.codegen.Looked.{Looked}
-use Rattle.recorder.specs.Word.{pick, both, either, word_of, range_word}
-use Rattle.recorder.specs.Recorder.{Look, unpack}
+use Rattle.recorder.specs.Word.{pick, both, either}
+use Rattle.recorder.specs.Recorder.{Look}
 use Rattle.recorder.specs.Ideal.{Search, missing, found}
 use Rattle.recorder.specs.Marks.{Mark, addr_of, data_of}
 use Rattle.recorder.proofs.Bools.{both_false}
-use Rattle.recorder.specs.Mem.{Mem, mem, mem_r, as_word, records_in, passed, clean_up_all, unlinked, on_rec, clear_args, settle_args, note_list, note_st, look_at}
+use Rattle.recorder.specs.Mem.{Mem, mem, mem_r, as_word, records_in, passed, clean_up_all, unlinked, on_rec, settle_args, look_at}
 use Rattle.rules.specs.Program.{Lines, settle_by, settle_jump, settle_restore, resolve_labels, resolve_datum_indices, close_up}
 use Rattle.resolution.specs.Looks.{as_look, settle_waiting}
-
-pub jump_yes : (call : ℕ) → call ≡ 20 → true ≡ either (eqb call 20) (eqb call 21)
-jump_yes call e = rw e
-
-pub jump_or : (call : ℕ) (x : Bool) → (call ≡ 20 → ⊥) → x ≡ eqb call 21 → x ≡ either (eqb call 20) (eqb call 21)
-jump_or call x h e = rw (ne_eqb call 20 h) e
 
 pub look_is : (q : Looked) (call line b c : ℕ) → (q.call ≡ call) × (q.line ≡ line) × (q.b ≡ b) × (q.c ≡ c) → record { call = call; line = line; b = b; c = c } ≡ as_look q
 look_is q call line b c p = rw (← p.0, ← p.1, ← p.2, ← p.3)
 
-pub missed : (t b : List ℕ) (l l' n n' : List ℕ) (s s' : List ℕ) (k class severity : ℕ) (q : Looked) (r : Range) → l' ≡ on_rec clear_args l s k → r ≡ unpack q.c
-    → (n' ≡ note_list n s (word_of class q.line) (range_word r) severity) × (s' ≡ note_st n s) → mem l' n' b s' ≡ settle_by (mem_r t) missing class severity k (as_look q) (mem l n b s)
-missed t b l l' n n' s s' k class severity q r e h p = rw (e, p.0, p.1, h)
+-- a record whose label is found, and one whose label is nowhere
+module _ (t : List ℕ) (find : ℕ → Search) (class severity k label : ℕ) (q : Looked) (u : Look) (e : u ≡ as_look q) (h : (1 ≤ q.b) × (label ≡ q.b - 1)) where
+  pub settles : (l l' n b : List ℕ) (s : List ℕ) (v : ℕ) → find label ≡ found v → l' ≡ on_rec (settle_args v) l s k → mem l' n b s ≡ settle_waiting t find class severity k u (mem l n b s)
+  settles l l' n b s v z p = rw (e, lt-ltb 0 q.b (omega arith), ← h.1, z, p)
 
--- a record that waits for no label, one whose label is found, one whose label is nowhere
-module _ (t : List ℕ) (find : ℕ → Search) (class severity k : ℕ) where
-  pub still : (q : Looked) (u : Look) (m : Mem) → u ≡ as_look q → q.b ≡ 0 → m ≡ settle_waiting t find class severity k u m
-  still q u m e h = rw (e, h)
-
-  pub settles : (q : Looked) (u : Look) (l l' n b : List ℕ) (s : List ℕ) (v : ℕ) → u ≡ as_look q → (q.b ≡ 0 → ⊥) → find (q.b - 1) ≡ found v
-      → l' ≡ on_rec (settle_args v) l s k → mem l' n b s ≡ settle_waiting t find class severity k u (mem l n b s)
-  settles q u l l' n b s v e h z p = rw (e, lt-ltb 0 q.b (omega arith), z, p)
-
-  pub loses : (q : Looked) (u : Look) (m m1 : Mem) → u ≡ as_look q → (q.b ≡ 0 → ⊥) → find (q.b - 1) ≡ missing
-      → m1 ≡ settle_by (mem_r t) missing class severity k (as_look q) m → m1 ≡ settle_waiting t find class severity k u m
-  loses q u m m1 e h z p = rw (e, lt-ltb 0 q.b (omega arith), z) p
+  pub loses : (m m1 : Mem) → find label ≡ missing → m1 ≡ settle_by (mem_r t) missing class severity k (as_look q) m → m1 ≡ settle_waiting t find class severity k u m
+  loses m m1 z p = rw (e, lt-ltb 0 q.b (omega arith), ← h.1, z) p
 
 -- what only some calls do: `c` says of the call whether it is one of them
 of_kind : (a c : Bool) (m m1 m2 : Mem) → c ≡ true → m1 ≡ pick a m2 m → m1 ≡ pick (both a c) m2 m
@@ -52,9 +36,6 @@ of_none : (a c : Bool) (m m2 : Mem) → c ≡ false → m ≡ pick (both a c) m2
 of_none a c m m2 e = rw (e, both_false a)
 
 -- the passes over the records
-pub from_start : {A : Type 0} (f : ℕ → A) (n : ℕ) → f (n - 0) ≡ f n
-from_start f n = let e : n - 0 ≡ n = omega arith in ap f e
-
 labels_step : (t : List ℕ) (ms : List Mark) (k n : ℕ) (m m1 : Mem) → k < n → m1 ≡ settle_jump (mem_r t) ms k (look_at m.list k) m
     → resolve_labels (mem_r t) ms (k + 1) (n - (k + 1)) m1 ≡ resolve_labels (mem_r t) ms k (n - k) m
 unfolding resolve_labels

@@ -7,9 +7,10 @@ use Rattle.recorder.specs.Marks.{Mark, mark, addr_of, data_of}
 use Rattle.recorder.specs.Closing.{rules_r, clean_up, close_whiles, open_notes, delays, end_rec, is_wend}
 use Rattle.recorder.proofs.Bools.{both_left}
 use Rattle.simulation.proofs.Clean.{close_length, delays_length}
-use Rattle.sheet.specs.declared.form.Checked.{Checked}
-use Rattle.sheet.specs.declared.form.Checked.TheVariants.{Accepted, TooLong, Surrogate, WorkTooShort, Offends}
-use Rattle.sheet.specs.declared.form.Offence.TheVariants.{BadWord, TooDeep, BadLength, BadRange, Fseek}
+use Rattle.sheet.specs.Check.{Checked}
+use Rattle.sheet.specs.Check.{Accepted}
+use Rattle.std.specs.Prelude.{Ok, Err}
+use Rattle.sheet.proofs.Numbers.{refusal_some}
 use Rattle.sheet.specs.Check.{checked}
 use Rattle.sheet.specs.Tree.{Opt, absent, given, Target, ProgramLine, program_at}
 use Rattle.rules.specs.Stmt.{compile_stmts}
@@ -200,7 +201,7 @@ module _ (t : List ℕ) (c : Lines Ideal) where
 -- what an accepted input is
 accepted_by : (k : Checked) (s t : List ℕ) (L : Lengths) → (outcome_by k s t L).answer.refusal ≡ 0 → (k ≡ Accepted) × (length (finished s t).records ≤ 65535)
 unfolding sized
-accepted_by Accepted s t L e = (refl, go (ltb (most_records L.list) (length (finished s t).records)) refl e)
+accepted_by (Ok u) s t L e = (refl, go (ltb (most_records L.list) (length (finished s t).records)) refl e)
   where
     go : (b : Bool) → ltb (most_records L.list) (length (finished s t).records) ≡ b
         → (pick b (refused 9 0 L)
@@ -209,14 +210,7 @@ accepted_by Accepted s t L e = (refl, go (ltb (most_records L.list) (length (fin
         → length (finished s t).records ≤ 65535
     go true q h = absurd (omega (arith, h))
     go false q h = let l = ltb-false (most_records L.list) (length (finished s t).records) q in omega (arith, l)
-accepted_by TooLong s t L e = absurd (omega (arith, e))
-accepted_by Surrogate s t L e = absurd (omega (arith, e))
-accepted_by WorkTooShort s t L e = absurd (omega (arith, e))
-accepted_by (Offends (BadWord p)) s t L e = absurd (omega (arith, e))
-accepted_by (Offends (TooDeep p)) s t L e = absurd (omega (arith, e))
-accepted_by (Offends (BadLength p)) s t L e = absurd (omega (arith, e))
-accepted_by (Offends (BadRange p)) s t L e = absurd (omega (arith, e))
-accepted_by (Offends (Fseek p)) s t L e = absurd (omega (arith, e))
+accepted_by (Err r) s t L e = absurd (omega (arith, e, refusal_some r))
 
 pub accepted_is : (s t : List ℕ) (L : Lengths) → (outcome s t L).answer.refusal ≡ 0 → (checked s t L.work ≡ Accepted) × (length (finished s t).records ≤ 65535)
 unfolding outcome

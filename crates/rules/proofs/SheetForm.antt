@@ -10,11 +10,11 @@ use Rattle.sheet.specs.declared.form.Sort.TheVariants.{Expr as exprSort, Place a
 use Rattle.sheet.specs.declared.form.Field.{Field}
 use Rattle.sheet.specs.declared.form.Shape.{Shape}
 use Rattle.sheet.specs.declared.form.Shape.TheVariants.{Rem, NoOp, Op0, Run, Op1, Op2, Op3, Draw, Set, Data, Def, Dim, Field as Fields, For, GoSub, GoTo, If, Input, Let, Load, Locate, Next, On, Open, Print, Read, Restore, Swap, System, While, Write}
-use Rattle.sheet.specs.declared.form.Walk.{Walk}
-use Rattle.sheet.specs.declared.form.Walk.TheVariants.{Behind, Stops}
+use Rattle.sheet.specs.Walk.{Walk}
+use Rattle.std.specs.Prelude.{Ok, Err}
 use Rattle.sheet.specs.declared.form.Line.{Line}
 use Rattle.sheet.specs.declared.form.Offence.TheVariants.{BadLength}
-use Rattle.sheet.specs.declared.form.Checked.TheVariants.{Accepted}
+use Rattle.sheet.specs.Check.{Accepted}
 use Rattle.sheet.specs.Table.{one, optional, list, non_empty, non_empty₂, optional_list, expr, flag, place, input_place, stmt, may_stand, expr_fields, shape_fields}
 use Rattle.sheet.specs.Form
 use Rattle.sheet.specs.Check.{checked}
@@ -171,97 +171,97 @@ module _ (s : List ℕ) (child : ℕ → Expr) (skip : ℕ → ℕ) where
 -- a walk that goes through
 pub record Through (w : Walk) : Type 0 where
   pub behind : ℕ
-  pub goes : w ≡ Behind behind
+  pub goes : w ≡ Ok behind
 
 module _ (s t : List ℕ) (line : Line) where
   -- the first field, and the others behind it
   pub record HeadField (child : Sort → ℕ → Walk) (skip : Sort → ℕ → ℕ) (f : Field) (fs : List Field) (at p : ℕ) : Type 0 where
     pub first : Through (Form.field_form s t line child f at)
-    pub rest : Form.fields_form s t line child fs (skip_field s skip f at) ≡ Behind p
+    pub rest : Form.fields_form s t line child fs (skip_field s skip f at) ≡ Ok p
 
   module _ (child : Sort → ℕ → Walk) (skip : Sort → ℕ → ℕ) (lands : (c : Sort) (at : ℕ) → Lands (child c at) (skip c at)) where
-    head_field : (f : Field) (fs : List Field) (at p : ℕ) → Form.fields_form s t line child (f ∷ fs) at ≡ Behind p → HeadField child skip f fs at p
+    head_field : (f : Field) (fs : List Field) (at p : ℕ) → Form.fields_form s t line child (f ∷ fs) at ≡ Ok p → HeadField child skip f fs at p
     unfolding Form.fields_form
     head_field f fs at p e =
         let q = skip_field s skip f at in
         let u = goes_on (Form.field_form s t line child f at) (λ q. Form.fields_form s t line child fs q) q p (field_lands s t line child skip lands f at) e in
         record { first = record { behind = q; goes = u.0 }; rest = u.1 }
 
-    one_item : (i : Item) (at p : ℕ) → Form.field_form s t line child (one i) at ≡ Behind p → Through (Form.item_form s t line child i at)
+    one_item : (i : Item) (at p : ℕ) → Form.field_form s t line child (one i) at ≡ Ok p → Through (Form.item_form s t line child i at)
     unfolding Form.field_form Form.times_form Form.pair_form
     one_item i at p e = let u = then_first _ (Form.item_form s t line child i at) (λ q. Form.item_form s t line child Nothing q) p refl e in record { behind = u.0; goes = u.1 }
 
-    one_node : (c : Sort) (at p : ℕ) → Form.field_form s t line child (one (Node c)) at ≡ Behind p → Through (child c at)
+    one_node : (c : Sort) (at p : ℕ) → Form.field_form s t line child (one (Node c)) at ≡ Ok p → Through (child c at)
     unfolding Form.item_form
     one_node c at p e = one_item (Node c) at p e
 
     -- the items of a list
-    list_items : (f : ℕ → Walk) (at p : ℕ) → Form.list_form s t line f at ≡ Behind p → Form.repeat_form s t line f (payload_at s at) (next s at) ≡ Behind p
+    list_items : (f : ℕ → Walk) (at p : ℕ) → Form.list_form s t line f at ≡ Ok p → Form.repeat_form s t line f (payload_at s at) (next s at) ≡ Ok p
     unfolding Form.list_form
     list_items f at p e = (goes_on (Form.count_form s at) (λ q. Form.repeat_form s t line f (payload_at s at) q) (next s at) p (word_lands s 4 16777216 at) e).1
 
-    listed : (a : Item) (at p : ℕ) → Form.field_form s t line child (list a) at ≡ Behind p → Form.repeat_form s t line (Form.pair_form s t line child a Nothing) (payload_at s at) (next s at) ≡ Behind p
+    listed : (a : Item) (at p : ℕ) → Form.field_form s t line child (list a) at ≡ Ok p → Form.repeat_form s t line (Form.pair_form s t line child a Nothing) (payload_at s at) (next s at) ≡ Ok p
     unfolding Form.field_form Form.times_form
     listed a at p e = list_items (Form.pair_form s t line child a Nothing) at p e
 
-    listed_some : (a b : Item) (at p : ℕ) → Form.field_form s t line child (non_empty₂ a b) at ≡ Behind p
-        → (eqb (payload_at s at) 0 ≡ false) × (Form.repeat_form s t line (Form.pair_form s t line child a b) (payload_at s at) (next s at) ≡ Behind p)
+    listed_some : (a b : Item) (at p : ℕ) → Form.field_form s t line child (non_empty₂ a b) at ≡ Ok p
+        → (eqb (payload_at s at) 0 ≡ false) × (Form.repeat_form s t line (Form.pair_form s t line child a b) (payload_at s at) (next s at) ≡ Ok p)
     unfolding Form.field_form Form.times_form
     listed_some a b at p e =
         let u = then_first _ (Form.non_empty_form s at) (λ q. Form.list_form s t line (Form.pair_form s t line child a b) at) p refl e in
         (nonempty s at u.0 u.1, list_items (Form.pair_form s t line child a b) at p u.2)
 
     -- one item: where it ends, and what is known of it
-    single : (a : Item) (at p : ℕ) → Form.pair_form s t line child a Nothing at ≡ Behind p → Form.item_form s t line child a at ≡ Behind p
+    single : (a : Item) (at p : ℕ) → Form.pair_form s t line child a Nothing at ≡ Ok p → Form.item_form s t line child a at ≡ Ok p
     unfolding Form.pair_form Form.item_form
     single a at p e =
         let u = then_first _ (Form.item_form s t line child a at) (λ q. Form.item_form s t line child Nothing q) p refl e in
         let f : u.0 ≡ p = cc u.2 in
         rw f at u.1
 
-    single_node : (c : Sort) (at p : ℕ) → Form.pair_form s t line child (Node c) Nothing at ≡ Behind p → child c at ≡ Behind p
+    single_node : (c : Sort) (at p : ℕ) → Form.pair_form s t line child (Node c) Nothing at ≡ Ok p → child c at ≡ Ok p
     unfolding Form.item_form
     single_node c at p e = single (Node c) at p e
 
   module _ (f : ℕ → Walk) (g : ℕ → ℕ) where
-    repeat_exprs : (X : Expr → Type 0) (h : ℕ → Expr) → ((at p : ℕ) → f at ≡ Behind p → (p ≡ g at) × X (h at)) → (n at p : ℕ) → Form.repeat_form s t line f n at ≡ Behind p → AllExprs X (exprs_at s h g n at)
+    repeat_exprs : (X : Expr → Type 0) (h : ℕ → Expr) → ((at p : ℕ) → f at ≡ Ok p → (p ≡ g at) × X (h at)) → (n at p : ℕ) → Form.repeat_form s t line f n at ≡ Ok p → AllExprs X (exprs_at s h g n at)
     unfolding Form.repeat_form exprs_at
     repeat_exprs X h k zero at p e = tt
     repeat_exprs X h k (suc n) at p e =
         let u = then_first _ (f at) (λ q. Form.repeat_form s t line f n q) p refl e in
         let v = k at u.0 u.1 in
-        (v.1, repeat_exprs X h k n (g at) p (subst (λ (q : ℕ). Form.repeat_form s t line f n q ≡ Behind p) v.0 u.2))
+        (v.1, repeat_exprs X h k n (g at) p (subst (λ (q : ℕ). Form.repeat_form s t line f n q ≡ Ok p) v.0 u.2))
 
-    repeat_items : {A : Type 0} (X : A → Type 0) (h : ℕ → A) → ((at p : ℕ) → f at ≡ Behind p → (p ≡ g at) × X (h at)) → (n at p : ℕ) → Form.repeat_form s t line f n at ≡ Behind p → All X (items_at s h g n at)
+    repeat_items : {A : Type 0} (X : A → Type 0) (h : ℕ → A) → ((at p : ℕ) → f at ≡ Ok p → (p ≡ g at) × X (h at)) → (n at p : ℕ) → Form.repeat_form s t line f n at ≡ Ok p → All X (items_at s h g n at)
     unfolding Form.repeat_form items_at
     repeat_items X h k zero at p e = tt
     repeat_items X h k (suc n) at p e =
         let u = then_first _ (f at) (λ q. Form.repeat_form s t line f n q) p refl e in
         let v = k at u.0 u.1 in
-        (v.1, repeat_items X h k n (g at) p (subst (λ (q : ℕ). Form.repeat_form s t line f n q ≡ Behind p) v.0 u.2))
+        (v.1, repeat_items X h k n (g at) p (subst (λ (q : ℕ). Form.repeat_form s t line f n q ≡ Ok p) v.0 u.2))
 
-    repeat_stmts : (h : ℕ → Stmt) → ((at p : ℕ) → f at ≡ Behind p → (p ≡ g at) × FormedStmt (h at)) → (n at p : ℕ) → Form.repeat_form s t line f n at ≡ Behind p → FormedStmts (stmts_at s h g n at)
+    repeat_stmts : (h : ℕ → Stmt) → ((at p : ℕ) → f at ≡ Ok p → (p ≡ g at) × FormedStmt (h at)) → (n at p : ℕ) → Form.repeat_form s t line f n at ≡ Ok p → FormedStmts (stmts_at s h g n at)
     unfolding Form.repeat_form stmts_at
     repeat_stmts h k zero at p e = tt
     repeat_stmts h k (suc n) at p e =
         let u = then_first _ (f at) (λ q. Form.repeat_form s t line f n q) p refl e in
         let v = k at u.0 u.1 in
-        (v.1, repeat_stmts h k n (g at) p (subst (λ (q : ℕ). Form.repeat_form s t line f n q ≡ Behind p) v.0 u.2))
+        (v.1, repeat_stmts h k n (g at) p (subst (λ (q : ℕ). Form.repeat_form s t line f n q ≡ Ok p) v.0 u.2))
 
   abbrev node : ℕ → Sort → ℕ → Walk
   node left c at = Form.node_form s t line left c at
 
-  place_tree : (left at p : ℕ) → node left placeSort at ≡ Behind p → IsPlace (expr_at s left at)
+  place_tree : (left at p : ℕ) → node left placeSort at ≡ Ok p → IsPlace (expr_at s left at)
   unfolding expr_at
   place_tree zero at p e = tt
   place_tree (suc left) at p e = place_node s (expr_at s left) (skip_node s left exprSort) (payload_at s at) _ _ (inside s t line left placeSort at p e).stands
 
-  input_tree : (left at p : ℕ) → node left inputSort at ≡ Behind p → IsInput (expr_at s left at)
+  input_tree : (left at p : ℕ) → node left inputSort at ≡ Ok p → IsInput (expr_at s left at)
   unfolding expr_at
   input_tree zero at p e = tt
   input_tree (suc left) at p e = input_node s (expr_at s left) (skip_node s left exprSort) (payload_at s at) _ _ (inside s t line left inputSort at p e).stands
 
-  call_tree : (left at p : ℕ) → node left exprSort at ≡ Behind p → FilledCall (expr_at s left at)
+  call_tree : (left at p : ℕ) → node left exprSort at ≡ Ok p → FilledCall (expr_at s left at)
   unfolding expr_at
   call_tree zero at p e = tt
   call_tree (suc left) at p e = call_node s (expr_at s left) (skip_node s left exprSort) (payload_at s at) _ _ (λ k. filled k (inside s t line left exprSort at p e).fields)
@@ -269,9 +269,9 @@ module _ (s t : List ℕ) (line : Line) where
       P : ℕ
       P = next s (next s at)
 
-      filled : payload_at s at ≡ 3 → Form.fields_form s t line (node left) (expr_fields (payload_at s at)) P ≡ Behind p → Filled (expr_list_at s (expr_at s left) (skip_node s left exprSort) (next s (next s P)))
+      filled : payload_at s at ≡ 3 → Form.fields_form s t line (node left) (expr_fields (payload_at s at)) P ≡ Ok p → Filled (expr_list_at s (expr_at s left) (skip_node s left exprSort) (next s (next s P)))
       filled k h = unfold expr_fields skip_field skip_times skip_pair skip_item in
-          let h₀ = subst (λ (n : ℕ). Form.fields_form s t line (node left) (expr_fields n) P ≡ Behind p) k h in
+          let h₀ = subst (λ (n : ℕ). Form.fields_form s t line (node left) (expr_fields n) P ≡ Ok p) k h in
           let a = head_field (node left) (skip_node s left) (node_lands s t line left) _ _ P p h₀ in
           let b = head_field (node left) (skip_node s left) (node_lands s t line left) _ _ (next s P) p a.rest in
           let c = head_field (node left) (skip_node s left) (node_lands s t line left) _ _ (next s (next s P)) p b.rest in
@@ -279,7 +279,7 @@ module _ (s t : List ℕ) (line : Line) where
           (listed_some (node left) (skip_node s left) (node_lands s t line left) expr Nothing (next s (next s P)) c.first.behind c.first.goes).0
 
   -- a statement's parts, where `left` depths are left and those below are formed
-  module _ (left : ℕ) (below : (at p : ℕ) → node left stmtSort at ≡ Behind p → FormedStmt (stmt_at s left at)) where
+  module _ (left : ℕ) (below : (at p : ℕ) → node left stmtSort at ≡ Ok p → FormedStmt (stmt_at s left at)) where
     abbrev child : Sort → ℕ → Walk
     child = Form.node_form s t line left
 
@@ -287,7 +287,7 @@ module _ (s t : List ℕ) (line : Line) where
     skip = skip_node s left
 
     abbrev Fs : List Field → ℕ → ℕ → Type 0
-    Fs fs at p = Form.fields_form s t line child fs at ≡ Behind p
+    Fs fs at p = Form.fields_form s t line child fs at ≡ Ok p
 
     head : (f : Field) (fs : List Field) (at p : ℕ) → Fs (f ∷ fs) at p → HeadField child skip f fs at p
     head f fs at p e = head_field child skip (node_lands s t line left) f fs at p e
@@ -334,7 +334,7 @@ module _ (s t : List ℕ) (line : Line) where
         let c = listed_some child skip (node_lands s t line left) expr place q b.first.behind b.first.goes in
         repeat_items (Form.pair_form s t line child expr place) (λ q. skip placeSort (skip exprSort q)) (λ (f : FieldSpec). IsPlace f.var) _ (λ m r f. one_field m r f) (payload_at s q) (next s q) b.first.behind c.1
       where
-        one_field : (m r : ℕ) → Form.pair_form s t line child expr place m ≡ Behind r → (r ≡ skip placeSort (skip exprSort m)) × IsPlace (expr_at s left (skip exprSort m))
+        one_field : (m r : ℕ) → Form.pair_form s t line child expr place m ≡ Ok r → (r ≡ skip placeSort (skip exprSort m)) × IsPlace (expr_at s left (skip exprSort m))
         one_field m r f = unfold Form.pair_form Form.item_form in
             let g = (goes_on (child exprSort m) (λ q. child placeSort q) (skip exprSort m) r (node_lands s t line left exprSort m) f).1 in
             (accepted s t line left placeSort (skip exprSort m) r g, place_tree left (skip exprSort m) r g)
@@ -353,7 +353,7 @@ module _ (s t : List ℕ) (line : Line) where
         let b = head (non_empty₂ expr flag) [] q p a.rest in
         some_items _ _ (payload_at s q) (next s q) (listed_some child skip (node_lands s t line left) expr flag q b.first.behind b.first.goes).0
 
-    element_of_lem : (n q p : ℕ) → Form.element_rest s t line child n q ≡ Behind p → FormedElement (element_of s left (stmt_at s left) n q)
+    element_of_lem : (n q p : ℕ) → Form.element_rest s t line child n q ≡ Ok p → FormedElement (element_of s left (stmt_at s left) n q)
     element_of_lem zero q p e = call_tree left q p e
     element_of_lem (suc zero) q p e = tt
     element_of_lem (suc (suc n)) q p e = tt
@@ -366,7 +366,7 @@ module _ (s t : List ℕ) (line : Line) where
         repeat_items (Form.pair_form s t line child element Nothing) (λ q. skip_element s skip (payload_at s q) (next s q)) FormedElement _ (λ m r f. one_element m r f)
         (payload_at s at) (next s at) a.first.behind b
       where
-        one_element : (m r : ℕ) → Form.pair_form s t line child element Nothing m ≡ Behind r
+        one_element : (m r : ℕ) → Form.pair_form s t line child element Nothing m ≡ Ok r
             → (r ≡ skip_element s skip (payload_at s m) (next s m)) × FormedElement (element_of s left (stmt_at s left) (payload_at s m) (next s m))
         one_element m r f = unfold Form.item_form skip_item in
             let g = single child skip (node_lands s t line left) element m r f in
@@ -374,7 +374,7 @@ module _ (s t : List ℕ) (line : Line) where
             ((item_lands s t line child skip (node_lands s t line left) element m).ends r g, element_of_lem (payload_at s m) (next s m) r h)
 
     -- statements inside an IF
-    stmts_of : (n at p : ℕ) → Form.repeat_form s t line (Form.pair_form s t line child stmt Nothing) n at ≡ Behind p → FormedStmts (stmts_at s (stmt_at s left) (skip stmtSort) n at)
+    stmts_of : (n at p : ℕ) → Form.repeat_form s t line (Form.pair_form s t line child stmt Nothing) n at ≡ Ok p → FormedStmts (stmts_at s (stmt_at s left) (skip stmtSort) n at)
     stmts_of n at p e =
         repeat_stmts (Form.pair_form s t line child stmt Nothing) (skip stmtSort) (stmt_at s left)
         (λ q r f. let g = single_node child skip (node_lands s t line left) stmtSort q r f in (accepted s t line left stmtSort q r g, below q r g)) n at p e
@@ -393,7 +393,7 @@ module _ (s t : List ℕ) (line : Line) where
         m = skip_list s (skip stmtSort) (skip exprSort at)
 
         go : (b : Bool) → FormedStmts (stmts_at s (stmt_at s left) (skip stmtSort) (payload_at s (skip exprSort at)) (next s (skip exprSort at))) → (u : ℕ)
-            → choose b (Form.absent_form s) (Form.list_form s t line (Form.pair_form s t line child stmt Nothing)) m ≡ Behind u
+            → choose b (Form.absent_form s) (Form.list_form s t line (Form.pair_form s t line child stmt Nothing)) m ≡ Ok u
             → FormedStmt (choose b (λ q. if_then r (expr_at s left at) (stmts_at s (stmt_at s left) (skip stmtSort) (payload_at s (skip exprSort at)) (next s (skip exprSort at))))
             (λ q. if_else r (expr_at s left at) (stmts_at s (stmt_at s left) (skip stmtSort) (payload_at s (skip exprSort at)) (next s (skip exprSort at))) (stmts_at s (stmt_at s left) (skip stmtSort) (payload_at s q) (next s q))) m)
         go true x u h = x
@@ -433,7 +433,7 @@ module _ (s t : List ℕ) (line : Line) where
     shape_of_lem While k r at p o f = tt
     shape_of_lem Write k r at p o f = write_values at p f
 
-  stmt_tree : (left at p : ℕ) → node left stmtSort at ≡ Behind p → FormedStmt (stmt_at s left at)
+  stmt_tree : (left at p : ℕ) → node left stmtSort at ≡ Ok p → FormedStmt (stmt_at s left at)
   unfolding stmt_at
   stmt_tree zero at p e = tt
   stmt_tree (suc left) at p e =
@@ -448,13 +448,13 @@ module _ (s t : List ℕ) where
       lands_choose (Form.is_absent s at) (Form.absent_form s) (λ p. Form.then (Form.range_form s line p) (λ q. Form.take_word s 3 65536 q)) (next s) (λ p. next s (next s p)) at (word_lands s 2 1 at)
       (lands_then _ _ (next s at) _ (range_lands s line at) (word_lands s 3 65536 (next s at)))
 
-  line_tree : (base at p : ℕ) → Form.line_form s t base at ≡ Behind p → (p ≡ behind_line s at) × FormedStmts (line_stmts s (behind_label s (next s at)))
+  line_tree : (base at p : ℕ) → Form.line_form s t base at ≡ Ok p → (p ≡ behind_line s at) × FormedStmts (line_stmts s (behind_label s (next s at)))
   unfolding Form.line_form Form.line_head
   line_tree base at p e =
       let line = Form.line_of s t base at in
       let f = Form.node_form s t line 64 stmtSort in
       let u = then_first _ (Form.line_head s t base at) (λ p. Form.then (Form.label_form s line p) (λ q. Form.list_form s t line f q)) p refl e in
-      let h = goes_on (Form.take_word s 16 4096 at) (λ p. pick (leb (base + payload_at s at) (length t)) (Behind p) (Stops (BadLength at))) (next s at) u.0 (word_lands s 16 4096 at) u.1 in
+      let h = goes_on (Form.take_word s 16 4096 at) (λ p. pick (leb (base + payload_at s at) (length t)) (Ok p) (Err (BadLength at))) (next s at) u.0 (word_lands s 16 4096 at) u.1 in
       let z : u.0 ≡ next s at = sym (pick_behind (leb (base + payload_at s at) (length t)) (next s at) u.0 (BadLength at) h.1).1 in
       let m = behind_label s (next s at) in
       let w = (goes_on (Form.label_form s line (next s at)) (λ q. Form.list_form s t line f q) m p (label_lands line (next s at)) (rw z at u.2)).1 in
@@ -463,15 +463,15 @@ module _ (s t : List ℕ) where
         repeat_stmts s t line f (skip_node s 64 stmtSort) (stmt_at s 64) (λ q r g. ((lands stmtSort q).ends r g, stmt_tree s t line 64 q r g)) (payload_at s m) (next s m) p (list_items s t line (Form.node_form s t line 64) (skip_node s 64) lands f m p w),
       )
 
-  lines_tree : (n base at p : ℕ) → Form.lines_form s t n base at ≡ Behind p → Formed (items_at s (line_at s) (behind_line s) n at)
+  lines_tree : (n base at p : ℕ) → Form.lines_form s t n base at ≡ Ok p → Formed (items_at s (line_at s) (behind_line s) n at)
   unfolding Form.lines_form items_at
   lines_tree zero base at p e = tt
   lines_tree (suc n) base at p e =
       let u = then_first _ (Form.line_form s t base at) (λ q. Form.lines_form s t n (base + payload_at s at) q) p refl e in
       let v = line_tree base at u.0 u.1 in
-      (v.1, lines_tree n (base + payload_at s at) (behind_line s at) p (subst (λ (q : ℕ). Form.lines_form s t n (base + payload_at s at) q ≡ Behind p) v.0 u.2))
+      (v.1, lines_tree n (base + payload_at s at) (behind_line s at) p (subst (λ (q : ℕ). Form.lines_form s t n (base + payload_at s at) q ≡ Ok p) v.0 u.2))
 
-  sheet_tree : (p : ℕ) → Form.sheet_form s t ≡ Behind p → Formed (program_at s)
+  sheet_tree : (p : ℕ) → Form.sheet_form s t ≡ Ok p → Formed (program_at s)
   unfolding Form.sheet_form program_at
   sheet_tree p e =
       lines_tree (payload_at s 0) 0 (next s 0) p (goes_on (Form.take_word s 15 16777216 0) (λ q. Form.lines_form s t (payload_at s 0) 0 q) (next s 0) p (word_lands s 15 16777216 0) e).1

@@ -5,8 +5,8 @@ use Rattle.recorder.proofs.Bools.{both_right}
 use Rattle.sheet.specs.declared.form.Sort.{Sort}
 use Rattle.sheet.specs.declared.form.Offence.{Offence}
 use Rattle.sheet.specs.declared.form.Offence.TheVariants.{BadWord, Fseek}
-use Rattle.sheet.specs.declared.form.Walk.{Walk}
-use Rattle.sheet.specs.declared.form.Walk.TheVariants.{Behind, Stops}
+use Rattle.sheet.specs.Walk.{Walk}
+use Rattle.std.specs.Prelude.{Ok, Err}
 use Rattle.sheet.specs.declared.form.Line.{Line}
 use Rattle.sheet.specs.Table.{own_range, fields_of, may_stand, is_fseek, node_kind}
 use Rattle.sheet.specs.Form
@@ -16,18 +16,18 @@ use Rattle.walk.proofs.Lines.{then_first}
 use Rattle.walk.proofs.Accepted.{Lands, lands_at, lands_never, lands_pick, word_lands, head_lands, own_lands, node_lands}
 
 -- a walk in two parts, whose first ends at x
-pub goes_on : (w : Walk) (f : ℕ → Walk) (x p : ℕ) → Lands w x → Form.then w f ≡ Behind p → (w ≡ Behind x) × (f x ≡ Behind p)
+pub goes_on : (w : Walk) (f : ℕ → Walk) (x p : ℕ) → Lands w x → Form.then w f ≡ Ok p → (w ≡ Ok x) × (f x ≡ Ok p)
 goes_on w f x p a e =
     let u = then_first (Form.then w f) w f p refl e in
     let z : u.0 ≡ x = a.ends u.0 u.1 in
     (rw z at u.1, rw z at u.2)
 
-refuses : (b : Bool) (q p : ℕ) (o : Offence) → pick b (Stops o) (Behind q) ≡ Behind p → b ≡ false
+refuses : (b : Bool) (q p : ℕ) (o : Offence) → pick b (Err o) (Ok q) ≡ Ok p → b ≡ false
 refuses true q p o e = let y : ◌≡◌ {A = ℕ} 0 1 = cc in absurd (omega arith)
 refuses false q p o e = refl
 
 module _ (s : List ℕ) where
-  pub nonempty : (at p : ℕ) → Form.non_empty_form s at ≡ Behind p → eqb (payload_at s at) 0 ≡ false
+  pub nonempty : (at p : ℕ) → Form.non_empty_form s at ≡ Ok p → eqb (payload_at s at) 0 ≡ false
   unfolding Form.non_empty_form
   nonempty at p e = refuses (eqb (payload_at s at) 0) (next s at) p (BadWord at) (goes_on (Form.count_form s at) _ (next s at) p (word_lands s 4 16777216 at) e).1
 
@@ -35,9 +35,9 @@ module _ (s : List ℕ) where
     -- a node: its head, its range, its fields
     pub record Inside (left : ℕ) (c : Sort) (at p : ℕ) : Type 0 where
       pub stands : may_stand c (payload_at s at) ≡ true
-      pub fields : Form.fields_form s t line (Form.node_form s t line left) (fields_of c (payload_at s at)) (next s (next s at)) ≡ Behind p
+      pub fields : Form.fields_form s t line (Form.node_form s t line left) (fields_of c (payload_at s at)) (next s (next s at)) ≡ Ok p
 
-    pub inside : (left : ℕ) (c : Sort) (at p : ℕ) → Form.node_form s t line (suc left) c at ≡ Behind p → Inside left c at p
+    pub inside : (left : ℕ) (c : Sort) (at p : ℕ) → Form.node_form s t line (suc left) c at ≡ Ok p → Inside left c at p
     unfolding Form.node_form Form.body_form
     inside left c at p e =
         let k = payload_at s at in

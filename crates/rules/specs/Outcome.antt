@@ -1,12 +1,11 @@
 -- What a call answers and leaves in the lent memory, for every sheet, text and lengths: document 01's rules, whole.
-use Rattle.std.specs.Prelude.{ℕ, ◌/◌, List, [], length, replicate, nat_lt}
+use Rattle.std.specs.Prelude.{Ok, Err, ℕ, ◌/◌, List, [], length, replicate, nat_lt}
 use Rattle.recorder.specs.Word.{pick}
 use Rattle.recorder.specs.Ideal.{Ideal, ideal}
 use Rattle.recorder.specs.Closing.{rules_r}
 use Rattle.recorder.specs.Layout.{words_of, rec_words, note_words, entry_words, note_size, entry_size, most_records, fill}
-use Rattle.sheet.specs.declared.form.Checked.{Checked}
-use Rattle.sheet.specs.declared.form.Checked.TheVariants.{Accepted, TooLong, Surrogate, WorkTooShort, Offends}
-use Rattle.sheet.specs.Check.{checked, refusal_number, refusal_place}
+use Rattle.sheet.specs.declared.form.Refusal.{Refusal}
+use Rattle.sheet.specs.Check.{Checked, checked, refusal_number, refusal_place}
 use Rattle.sheet.specs.Tree.{program_at}
 use Rattle.rules.specs.Program.{Lines, first_line, compile_lines, close_up}
 
@@ -73,15 +72,12 @@ sized i L =
     (accepted i L)))
 
 -- 1 to 8
-abbrev pub refused_by : Checked → Lengths → Outcome
-refused_by c L = refused (refusal_number c) (refusal_place c) L
+abbrev pub refused_by : Refusal → Lengths → Outcome
+refused_by r L = refused (refusal_number r) (refusal_place r) L
 
 abbrev pub outcome_by : Checked → List ℕ → List ℕ → Lengths → Outcome
-outcome_by Accepted s t L = sized (finished s t) L
-outcome_by TooLong s t L = refused_by TooLong L
-outcome_by Surrogate s t L = refused_by Surrogate L
-outcome_by WorkTooShort s t L = refused_by WorkTooShort L
-outcome_by (Offends o) s t L = refused_by (Offends o) L
+outcome_by (Ok u) s t L = sized (finished s t) L
+outcome_by (Err r) s t L = refused_by r L
 
 unfoldable pub outcome : List ℕ → List ℕ → Lengths → Outcome
 outcome s t L = outcome_by (checked s t L.work) s t L

@@ -1,7 +1,7 @@
 -- Twelve of document 01's "Pairs to run", in one table.
 use Rattle.std.specs.Prelude.{ℕ, List, [], ◌∷◌, ◌++◌, map, length, replicate}
 use Rattle.recorder.specs.Ideal.{Rec, Note, Entry, Ideal}
-use Rattle.sheet.specs.Check.{checked, refusal_number}
+use Rattle.sheet.specs.Check.{checked, answer_number}
 use Rattle.rules.specs.Outcome.{finished}
 
 -- what is looked at: the refusal, the notes' classes, each record's call and first two arguments but End's, and the book
@@ -85,4 +85,4 @@ shown_of k i = shown k (map (λ (n : Note). n.class) i.notes) (calls_shown i.rec
 
 -- what the rules give
 abbrev pub rules_show : Pair → Shown
-rules_show p = shown_of (refusal_number (checked p.sheet p.text (length p.sheet))) (finished p.sheet p.text)
+rules_show p = shown_of (answer_number (checked p.sheet p.text (length p.sheet))) (finished p.sheet p.text)

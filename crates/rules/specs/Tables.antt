@@ -5,6 +5,7 @@ use Rattle.rules.specs.declared.types.«Type».{«Type» as Ty}
 use Rattle.rules.specs.declared.types.«Type».TheVariants.{Real, String, Error}
 use Rattle.rules.specs.declared.tables.Sig.{Sig}
 use Rattle.rules.specs.declared.tables.Sig.TheVariants.{RealOfReal, RealOfText, TextOfReal, TextPart, Mid, Point}
+use Rattle.rules.specs.declared.tables.Arity.{Arity}
 use Rattle.rules.specs.declared.tables.Wants.{Wants}
 use Rattle.rules.specs.declared.tables.Wants.TheVariants.{Func, Every, Draw}
 
@@ -87,10 +88,6 @@ abbrev pub every_real : ℕ → Ty
 every_real i = Real
 
 -- the draw statements' least and greatest numbers of arguments, all numbers
-pub record Arity : Type 0 where
-  pub min : ℕ
-  pub max : ℕ
-
 abbrev pub arity : ℕ → ℕ → Arity
 arity a b = record { min = a; max = b }
 
@@ -123,10 +120,3 @@ abbrev pub wanted_by : Wants → ℕ → Ty
 wanted_by (Func k) = wanted (signature_of k).args
 wanted_by Every = every_real
 wanted_by (Draw k) = drawn k
-
--- so many numbers; a text first; beyond them anything
-abbrev pub reals_below : ℕ → ℕ → Ty
-reals_below i n = pick (nat_lt i n) Real Error
-
-abbrev pub text_then_reals : ℕ → ℕ → Ty
-text_then_reals i n = pick (i == 0) String (reals_below i n)

@@ -20,89 +20,56 @@ pub struct Name {
 pub fn text_place(base: u32, n: u32) -> u32
     ensures { result ≡ text_place base n }
 {
-    std::num::wrapping_add_u32(base, n)
+    base.wrapping_add(n)
 }
 
 // The number of units between a start and an end.
 pub fn units(r: Range) -> u32
     ensures { result ≡ r.end - r.start }
 {
-    if r.start < r.end {
-        (r.end - r.start) as u32
-    } else {
-        0
-    }
+    u32::from(r.end.saturating_sub(r.start))
 }
 
-// One less; nothing stays nothing.
-pub fn less_one(n: u32) -> u32
-    ensures { result ≡ n - 1 }
-{
-    if 0 < n { n - 1 } else { 0 }
-}
-
+// A blank, $ or %.
 fn ends_name(u: u16) -> bool
     ensures { result ≡ ends_name u }
 {
-    match u {
-        32 => true,
-        36 => true,
-        37 => true,
-        _ => false,
-    }
+    matches!(u, 32 | 36 | 37)
 }
 
-// Of the n units from a place, those before the first blank or sigil.
+// Of the n units from a place, those before the first blank or sigil; behind the text there is neither.
 fn name_length(text: &[u16], at: usize, n: u32) -> u32
     ensures { result ≡ name_length text.now at n }
 {
-    let mut p = at;
-    let mut left = n;
-    let mut len: u32 = 0;
-    while 0 < left {
-        if ends_name(recorder::word::unit_at(text, p)) {
-            return len;
-        }
-        p = recorder::word::behind_unit(text, p);
-        left -= 1;
-        len += 1;
-    }
-    len
+    let units = text.get(at..).unwrap_or_default();
+    units
+        .iter()
+        .take(n as usize)
+        .position(|u| ends_name(*u))
+        .map_or(n, |len| len as u32)
 }
 
 fn sigil_count(sigil: u32) -> u32
     ensures { result ≡ sigil_count sigil }
 {
-    if 0 < sigil { 1 } else { 0 }
+    u32::from(sigil != 0)
 }
 
-fn lost_units(n: u32, len: u32, sigil: u32) -> u32
-    ensures { result ≡ n - len - sigil_count sigil }
-{
-    let c = sigil_count(sigil);
-    if len < n {
-        let d = n - len;
-        if c < d { d - c } else { 0 }
-    } else {
-        0
-    }
-}
-
+#[tactic(auto, unfolding(crate::specs::Name::read_name))]
 pub fn read_name(text: &[u16], base: u32, r: Range) -> Name
     ensures { result ≡ read_name text.now base r }
 {
-    let at = text_place(base, r.start as u32);
+    let start = text_place(base, u32::from(r.start));
     let n = units(r);
-    let last = less_one(text_place(base, r.end as u32));
-    let ty = crate::types::type_of(recorder::word::unit_at(text, last as usize));
-    let sigil = crate::types::sigil(ty);
-    let len = name_length(text, at as usize, n);
-    let lost = lost_units(n, len, sigil);
+    let last = text_place(base, u32::from(r.end)).saturating_sub(1);
+    let ty = Type::of_last_unit(recorder::word::unit_at(text, last as usize));
+    let sigil = ty.sigil();
+    let len = name_length(text, start as usize, n);
     Name {
-        start: at,
+        start,
         len,
         sigil,
         ty,
-        lost,
+        lost: n.saturating_sub(len).saturating_sub(sigil_count(sigil)),
     }
 }

@@ -1,3 +1,3 @@
 pub mod Walks
-pub mod Rows
 pub mod Shapes
+pub mod Numbers

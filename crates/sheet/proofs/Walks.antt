@@ -4,47 +4,31 @@ use mathlib.Core.Bool.{Bool, true, false}
 use mathlib.Core.List.{List}
 use Prim.Native.Nat.{ℕ, zero, suc, ◌-◌, ◌≤◌, ◌<◌}
 use native.Mathlib.Omega.{arith}
-use borrow.Author.Tests.{lt-ltb, le-ltb, eq-eqb, ne_eqb}
+use borrow.Author.Tests.{le-ltb}
 use lib.Dec.{ltb, eqb}
 use lib.ListN.{length, get_or, get_or-eq_default}
 use Rattle.recorder.specs.Word.{pick, choose, both, either, next}
 use Rattle.sheet.specs.declared.form.Offence.{Offence}
-use Rattle.sheet.specs.declared.form.Walk.{Walk}
-use Rattle.sheet.specs.declared.form.Walk.TheVariants.{Behind, Stops}
-use Rattle.recorder.specs.declared.word.Range.{Range}
-use Rattle.sheet.specs.declared.form.Marked.{Marked}
-use Rattle.sheet.specs.declared.form.Marked.TheVariants.{Labelled, Absent}
-use Rattle.sheet.specs.Parts.{marked_at}
-use Rattle.sheet.specs.Form.{then, is_absent, is_alnum, is_sigil, name_tail, is_name, high_form, low_form, lacks_unit}
+use Rattle.sheet.specs.Walk.{Walk}
+use Rattle.std.specs.Prelude.{Ok, Err}
+use Rattle.sheet.specs.Form.{then, is_alnum, is_sigil, name_tail, is_name}
 
 -- a walk that offends ends what goes on behind it
-pub then_stop : (w x : Walk) (o : Offence) (f : ℕ → Walk) → w ≡ x → w ≡ Stops o → w ≡ then x f
+pub then_stop : (w x : Walk) (o : Offence) (f : ℕ → Walk) → w ≡ x → w ≡ Err o → w ≡ then x f
 then_stop w x o f e h = rw (← e, h)
 
 -- a walk that ends at p goes on at p
-pub then_go : (w x y : Walk) (p : ℕ) (f : ℕ → Walk) → w ≡ x → w ≡ Behind p → y ≡ f p → y ≡ then x f
+pub then_go : (w x y : Walk) (p : ℕ) (f : ℕ → Walk) → w ≡ x → w ≡ Ok p → y ≡ f p → y ≡ then x f
 then_go w x y p f e h g = rw (← e, h) g
 
 -- a test that let the walk go on
-pub pick_behind : (b : Bool) (p q : ℕ) (o : Offence) → pick b (Behind p) (Stops o) ≡ Behind q → (b ≡ true) × (p ≡ q)
+pub pick_behind : (b : Bool) (p q : ℕ) (o : Offence) → pick b (Ok p) (Err o) ≡ Ok q → (b ≡ true) × (p ≡ q)
 pick_behind true p q o e = (refl, cc)
 pick_behind false p q o e = let z : ◌≡◌ {A = ℕ} 0 1 = cc in absurd (omega arith)
 
 -- a test that a function answered, and what the answer was
 pub told : (f a x : Bool) → f ≡ a → f ≡ x → a ≡ x
 told f a x e h = sym e ∙ h
-
-pub same_eq : (r x y : ℕ) → r ≡ x → r ≡ y → eqb x y ≡ true
-same_eq r x y e h = eq-eqb x y (sym e ∙ h)
-
-pub not_eq : (r x y : ℕ) → r ≡ x → (r ≡ y → ⊥) → eqb x y ≡ false
-not_eq r x y e h = ne_eqb x y (λ q. h (e ∙ q))
-
-pub is_lt : (r x y : ℕ) → r ≡ x → r < y → ltb x y ≡ true
-is_lt r x y e h = lt-ltb x y (rw e at h)
-
-pub not_lt : (r x y : ℕ) → r ≡ x → y ≤ r → ltb x y ≡ false
-not_lt r x y e h = le-ltb x y (rw e at h)
 
 pub either_yes : (a b : Bool) → a ≡ true → true ≡ either a b
 either_yes a b e = rw e
@@ -65,15 +49,6 @@ module _ {A : Type 0} where
   pub pick_no : (b : Bool) (x y z : A) → b ≡ false → z ≡ y → z ≡ pick b x y
   pick_no b x y z e h = rw e h
 
-pub both_true : (a b : Bool) → a ≡ true → b ≡ true → both a b ≡ true
-both_true a b e h = rw (e, h)
-
-pub both_left_false : (a b : Bool) → a ≡ false → both a b ≡ false
-both_left_false a b e = rw e
-
-pub both_right_false : (a b : Bool) → a ≡ true → b ≡ false → both a b ≡ false
-both_right_false a b e h = rw (e, h)
-
 abbrev inner : ℕ → Bool
 inner v = either (is_alnum v) (eqb v 32)
 
@@ -92,10 +67,6 @@ unfolding name_tail
 tail_step t p zero z f u q h a b c d e = absurd (omega arith)
 tail_step t p (suc zero) z f u q h a b c d e = absurd (omega arith)
 tail_step t p (suc (suc n)) z f u q h a b c d e = let k : name_tail t (next t p) (suc n) ≡ z = step t p n z f u a b c e in let m : suc (suc n) - 1 ≡ suc n = omega arith in rw (d, m) k
-
-pub tail_none : (t : List ℕ) (p left : ℕ) (z : Bool) → left ≡ 0 → name_tail t p left ≡ z → true ≡ z
-unfolding name_tail
-tail_none t p left z h e = rw h at e
 
 pub tail_bad : (t : List ℕ) (p left : ℕ) (z f : Bool) (u : ℕ) → 1 < left → u ≡ get_or t p 0 → f ≡ either (is_alnum u) (eqb u 32) → f ≡ false
     → name_tail t p left ≡ z → false ≡ z
@@ -130,25 +101,3 @@ choose_yes b f g p w e h = rw e h
 
 pub choose_no : (b : Bool) (f g : ℕ → Walk) (p : ℕ) (w : Walk) → b ≡ false → w ≡ g p → w ≡ choose b f g p
 choose_no b f g p w e h = rw e h
-
-pub lacks_same : (q q' : ℕ) (r r' : Range) → q ≡ q' → r ≡ r' → lacks_unit q r ≡ lacks_unit q' r'
-lacks_same q q' r r' e h = rw (e, h)
-
--- what a line's mark says of the word there
-marked_cases : (b : Bool) (m : Marked) → m ≡ pick b Absent Labelled → (m ≡ Absent → b ≡ true) × (m ≡ Labelled → b ≡ false)
-marked_cases true m e = (λ h. refl, λ h. let z : Labelled ≡ Absent = sym h ∙ e in cc)
-marked_cases false m e = (λ h. let z : Absent ≡ Labelled = sym h ∙ e in cc, λ h. refl)
-
-pub is_absent_marked : (s : List ℕ) (at : ℕ) (m : Marked) → m ≡ marked_at s at → m ≡ Absent → is_absent s at ≡ true
-unfolding marked_at
-is_absent_marked s at m e h = (marked_cases (is_absent s at) m e).0 h
-
-pub is_present_marked : (s : List ℕ) (at : ℕ) (m : Marked) → m ≡ marked_at s at → m ≡ Labelled → is_absent s at ≡ false
-unfolding marked_at
-is_present_marked s at m e h = (marked_cases (is_absent s at) m e).1 h
-
-pub high_at : (s : List ℕ) (e e' p : ℕ) (w : Walk) → w ≡ high_form s e p → e ≡ e' → w ≡ high_form s e' p
-high_at s e e' p w a b = rw b at a
-
-pub low_at : (s : List ℕ) (e e' p : ℕ) (w : Walk) → w ≡ low_form s e p → e ≡ e' → w ≡ low_form s e' p
-low_at s e e' p w a b = rw b at a

@@ -10,15 +10,15 @@ use Rattle.sheet.specs.declared.form.Times.{Times}
 use Rattle.sheet.specs.declared.form.Times.TheVariants.{Once, Optional, List as Listed, NonEmpty, OptionalList}
 use Rattle.sheet.specs.declared.form.Field.{Field}
 use Rattle.sheet.specs.declared.form.Offence.TheVariants.{BadWord, TooDeep, BadLength, BadRange, Fseek}
-use Rattle.sheet.specs.declared.form.Walk.{Walk}
-use Rattle.sheet.specs.declared.form.Walk.TheVariants.{Behind, Stops}
+use Rattle.sheet.specs.Walk.{Walk}
+use Rattle.std.specs.Prelude.{Ok, Err}
 use Rattle.sheet.specs.declared.form.Line.{Line}
-use Rattle.sheet.specs.Table.{node_kind, may_stand, own_range, fields_of, is_fseek}
+use Rattle.sheet.specs.Table.{kind_number, node_kind, may_stand, own_range, fields_of, is_fseek}
 
 -- go on behind what was read, unless it offends
 abbrev pub then : Walk → (ℕ → Walk) → Walk
-then (Behind p) f = f p
-then (Stops o) f = Stops o
+then (Ok p) f = f p
+then (Err o) f = Err o
 
 abbrev pub between : ℕ → ℕ → ℕ → Bool
 between a u b = both (leb a u) (leb u b)
@@ -33,11 +33,17 @@ is_alnum u = either (is_letter u) (between 48 u 57)
 abbrev pub is_sigil : ℕ → Bool
 is_sigil u = either (eqb u 37) (eqb u 36)
 
+abbrev pub is_inner : ℕ → Bool
+is_inner u = either (is_alnum u) (eqb u 32)
+
+abbrev pub is_last : ℕ → Bool
+is_last u = either (is_alnum u) (is_sigil u)
+
 -- the n units of the text from `at`, behind a name's first
 unfoldable pub name_tail : List ℕ → ℕ → ℕ → Bool
 name_tail t at zero = true
-name_tail t at (suc zero) = either (is_alnum (get_or t at 0)) (is_sigil (get_or t at 0))
-name_tail t at (suc (suc n)) = both (either (is_alnum (get_or t at 0)) (eqb (get_or t at 0) 32)) (name_tail t (next t at) (suc n))
+name_tail t at (suc zero) = is_last (get_or t at 0)
+name_tail t at (suc (suc n)) = both (is_inner (get_or t at 0)) (name_tail t (next t at) (suc n))
 
 unfoldable pub is_name : List ℕ → ℕ → ℕ → Bool
 is_name t at n = both (ltb 0 n) (both (is_letter (get_or t at 0)) (name_tail t (next t at) (n - 1)))
@@ -71,7 +77,7 @@ in_line line r = both (leb r.start r.end) (leb r.end line.len)
 module _ (s : List ℕ) where
   -- a word of the kind k with a payload below n
   unfoldable pub take_word : ℕ → ℕ → ℕ → Walk
-  take_word k n at = pick (both (eqb (kind_at s at) k) (ltb (payload_at s at) n)) (Behind (next s at)) (Stops (BadWord at))
+  take_word k n at = pick (both (eqb (kind_at s at) k) (ltb (payload_at s at) n)) (Ok (next s at)) (Err (BadWord at))
 
   abbrev pub absent_form : ℕ → Walk
   absent_form at = take_word 2 1 at
@@ -81,36 +87,39 @@ module _ (s : List ℕ) where
   count_form at = take_word 4 16777216 at
 
   unfoldable pub non_empty_form : ℕ → Walk
-  non_empty_form at = then (count_form at) (λ p. pick (eqb (payload_at s at) 0) (Stops (BadWord at)) (Behind p))
+  non_empty_form at = then (count_form at) (λ p. pick (eqb (payload_at s at) 0) (Err (BadWord at)) (Ok p))
 
   -- a literal's value: "0A with exponent e (0 to 255), or 256 for too large; then two 0B words, the high and low 16 bits of m."
+  abbrev pub half_form : Bool → ℕ → Walk
+  half_form fits at = then (take_word 11 65536 at) (λ p. pick fits (Ok p) (Err (BadWord at)))
+
   unfoldable pub high_form : ℕ → ℕ → Walk
-  high_form e at = then (take_word 11 65536 at) (λ p. pick (high_fits e (payload_at s at)) (Behind p) (Stops (BadWord at)))
+  high_form e at = half_form (high_fits e (payload_at s at)) at
 
   unfoldable pub low_form : ℕ → ℕ → Walk
-  low_form e at = then (take_word 11 65536 at) (λ p. pick (low_fits e (payload_at s at)) (Behind p) (Stops (BadWord at)))
+  low_form e at = half_form (low_fits e (payload_at s at)) at
 
   unfoldable pub number_form : ℕ → Walk
   number_form at = then (take_word 10 257 at) (λ p. then (high_form (payload_at s at) p) (λ q. low_form (payload_at s at) q))
 
   -- a node's head: its kind, and a case that may stand there
   abbrev pub head_form : Sort → ℕ → Walk
-  head_form c at = pick (both (eqb (kind_at s at) (node_kind c)) (may_stand c (payload_at s at))) (Behind (next s at)) (Stops (BadWord at))
+  head_form c at = pick (both (eqb (kind_at s at) (node_kind c)) (may_stand c (payload_at s at))) (Ok (next s at)) (Err (BadWord at))
 
   abbrev pub fseek_form : Sort → ℕ → ℕ → Walk
-  fseek_form c at p = pick (is_fseek c (payload_at s at)) (Stops (Fseek at)) (Behind p)
+  fseek_form c at p = pick (is_fseek c (payload_at s at)) (Err (Fseek at)) (Ok p)
 
   module _ (line : Line) where
     unfoldable pub range_form : ℕ → Walk
-    range_form at = then (take_word 1 16777216 at) (λ p. pick (in_line line (range_at s at)) (Behind p) (Stops (BadRange at)))
+    range_form at = then (take_word 1 16777216 at) (λ p. pick (in_line line (range_at s at)) (Ok p) (Err (BadRange at)))
 
     unfoldable pub text_form : ℕ → Walk
-    text_form at = then (range_form at) (λ p. pick (has_unit (range_at s at)) (Behind p) (Stops (BadRange at)))
+    text_form at = then (range_form at) (λ p. pick (has_unit (range_at s at)) (Ok p) (Err (BadRange at)))
 
     -- a datum is its range and whether it is quoted; "Its place is the range word, for a quoted datum too."
     unfoldable pub datum_form : ℕ → Walk
     datum_form at = then (range_form at) (λ p. then (take_word 5 2 p)
-        (λ q. pick (lacks_unit (payload_at s p) (range_at s at)) (Stops (BadRange at)) (Behind q)))
+        (λ q. pick (lacks_unit (payload_at s p) (range_at s at)) (Err (BadRange at)) (Ok q)))
 
     -- "absent, or range and label"
     unfoldable pub label_form : ℕ → Walk
@@ -123,11 +132,11 @@ module _ (s t : List ℕ) where
     is_name_range r = is_name t (line.base + r.start) (r.end - r.start)
 
     unfoldable pub name_form : ℕ → Walk
-    name_form at = then (range_form s line at) (λ p. pick (is_name_range (range_at s at)) (Behind p) (Stops (BadRange at)))
+    name_form at = then (range_form s line at) (λ p. pick (is_name_range (range_at s at)) (Ok p) (Err (BadRange at)))
 
     -- "07 input source: 0 keyboard, 1 keyboard and a prompt range, 2 file and an expression"
     abbrev pub source_rest : (Sort → ℕ → Walk) → ℕ → ℕ → Walk
-    source_rest child zero p = Behind p
+    source_rest child zero p = Ok p
     source_rest child (suc zero) p = text_form s line p
     source_rest child (suc (suc n)) p = child Expr p
 
@@ -138,8 +147,8 @@ module _ (s t : List ℕ) where
 
     -- an item, where `child` reads the statements and expressions below
     unfoldable pub item_form : (Sort → ℕ → Walk) → Item → ℕ → Walk
-    item_form child Nothing at = Behind at
-    item_form child (Word k n) at = take_word s k n at
+    item_form child Nothing at = Ok at
+    item_form child (Word k n) at = take_word s (kind_number k) n at
     item_form child range at = range_form s line at
     item_form child name at = name_form at
     item_form child optionalName at = choose (is_absent s at) (absent_form s) name_form at
@@ -156,7 +165,7 @@ module _ (s t : List ℕ) where
     pair_form child a b at = then (item_form child a at) (λ p. item_form child b p)
 
     unfoldable pub repeat_form : (ℕ → Walk) → ℕ → ℕ → Walk
-    repeat_form f zero at = Behind at
+    repeat_form f zero at = Ok at
     repeat_form f (suc n) at = then (f at) (λ p. repeat_form f n p)
 
     unfoldable pub list_form : (ℕ → Walk) → ℕ → Walk
@@ -174,7 +183,7 @@ module _ (s t : List ℕ) where
     field_form child f at = times_form f.times (pair_form child f.first f.second) at
 
     unfoldable pub fields_form : (Sort → ℕ → Walk) → List Field → ℕ → Walk
-    fields_form child [] at = Behind at
+    fields_form child [] at = Ok at
     fields_form child (f ∷ fs) at = then (field_form child f at) (λ p. fields_form child fs p)
 
     -- what stands behind a node's head word
@@ -184,7 +193,7 @@ module _ (s t : List ℕ) where
     -- a statement or an expression with `left` depths left, its own among them.
     -- 5: "A statement or expression nested deeper than 64, a line's own statement being depth 1."
     unfoldable pub node_form : ℕ → Sort → ℕ → Walk
-    node_form zero c at = then (head_form s c at) (λ p. Stops (TooDeep at))
+    node_form zero c at = then (head_form s c at) (λ p. Err (TooDeep at))
     node_form (suc left) c at = then (head_form s c at) (λ p. then (fseek_form s c at p) (λ q. body_form (node_form left) c (payload_at s at) q))
 
   -- "Each line: 10 with its length in units (at most 4,095), then absent, or range and label; then a count and the statements."
@@ -193,7 +202,7 @@ module _ (s t : List ℕ) where
 
   -- 6: "At a line head the line lengths so far pass the text"
   unfoldable pub line_head : ℕ → ℕ → Walk
-  line_head base at = then (take_word s 16 4096 at) (λ p. pick (leb (base + payload_at s at) (length t)) (Behind p) (Stops (BadLength at)))
+  line_head base at = then (take_word s 16 4096 at) (λ p. pick (leb (base + payload_at s at) (length t)) (Ok p) (Err (BadLength at)))
 
   unfoldable pub line_form : ℕ → ℕ → Walk
   line_form base at =
@@ -201,7 +210,7 @@ module _ (s t : List ℕ) where
 
   -- 4: "a word left over"; 6: "or after the last word they fall short of it"
   unfoldable pub end_form : ℕ → ℕ → Walk
-  end_form base at = pick (ltb at (length s)) (Stops (BadWord at)) (pick (ltb base (length t)) (Stops (BadLength (length s))) (Behind at))
+  end_form base at = pick (ltb at (length s)) (Err (BadWord at)) (pick (ltb base (length t)) (Err (BadLength (length s))) (Ok at))
 
   unfoldable pub lines_form : ℕ → ℕ → ℕ → Walk
   lines_form zero base at = end_form base at

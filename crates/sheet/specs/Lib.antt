@@ -1,6 +1,6 @@
 pub mod Table
+pub mod Walk
 pub mod Form
-pub mod Parts
 pub mod Check
 pub mod Skip
 pub mod Tree

@@ -1,6 +1,8 @@
 -- The form of the sheet: for each case of ExprKind and StmtKind its fields, in the declared order.
 use Rattle.std.specs.Prelude.{List, [], ◌∷◌, Bool, false, ℕ, zero, suc, ltb, eqb, get_or}
 use Rattle.recorder.specs.Word.{either}
+use Rattle.sheet.specs.declared.form.Kind.{Kind}
+use Rattle.sheet.specs.declared.form.Kind.TheVariants.{Range as RangeWord, Absent as AbsentWord, Label as LabelWord, Count as CountWord, Flag as FlagWord, Mode as ModeWord, Source as SourceWord, Element as ElementWord, Place as PlaceWord, Exponent as ExponentWord, Mantissa as MantissaWord, Program as ProgramWord, Line as LineWord, Stmt as StmtWord, Expr as ExprWord}
 use Rattle.sheet.specs.declared.form.Item.{Item}
 use Rattle.sheet.specs.declared.form.Item.TheVariants.{Nothing, Word, Range as range, Name as name, OptionalName as optionalName, Text as text, Node, Number as number, OptionalLabel as optionalLabel, Source as source, Element as element, Datum as datum}
 use Rattle.sheet.specs.declared.form.Sort.{Sort}
@@ -10,25 +12,45 @@ use Rattle.sheet.specs.declared.form.Field.{Field}
 use Rattle.sheet.specs.declared.form.Shape.{Shape}
 use Rattle.sheet.specs.declared.form.Shape.TheVariants.{Rem, NoOp, Op0, Run, Op1, Op2, Op3, Draw, Set, Data, Def, Dim, Field as Fields, For, GoSub, GoTo, If, Input, Let, Load, Locate, Next, On, Open, Print, Read, Restore, Swap, System, While, Write}
 
+-- "A word's top 8 bits are its kind (hexadecimal below)": 01 range, 02 absent, 03 label, 04 count, 05 yes or no, 06 file mode,
+-- 07 input source, 08 print element, 09 a place in an enum of operations, 0A and 0B a literal's exponent and the halves of its
+-- mantissa, 0F program, 10 line, 20 statement, 21 expression
+abbrev pub kind_number : Kind → ℕ
+kind_number RangeWord = 1
+kind_number AbsentWord = 2
+kind_number LabelWord = 3
+kind_number CountWord = 4
+kind_number FlagWord = 5
+kind_number ModeWord = 6
+kind_number SourceWord = 7
+kind_number ElementWord = 8
+kind_number PlaceWord = 9
+kind_number ExponentWord = 10
+kind_number MantissaWord = 11
+kind_number ProgramWord = 15
+kind_number LineWord = 16
+kind_number StmtWord = 32
+kind_number ExprWord = 33
+
 -- words of one kind: "03 label, 0 to 65,535"; "05 yes or no, 1 or 0"; "06 file mode: 0 Error, 1 Random, then from 2 FileMode's
 -- other cases"; "09 a place in SysFuncKind, BinaryOpKind or UnaryOpKind"
 abbrev pub label : Item
-label = Word 3 65536
+label = Word LabelWord 65536
 
 abbrev pub flag : Item
-flag = Word 5 2
+flag = Word FlagWord 2
 
 abbrev pub mode : Item
-mode = Word 6 6
+mode = Word ModeWord 6
 
 abbrev pub sys_func : Item
-sys_func = Word 9 34
+sys_func = Word PlaceWord 34
 
 abbrev pub binary_op : Item
-binary_op = Word 9 13
+binary_op = Word PlaceWord 13
 
 abbrev pub unary_op : Item
-unary_op = Word 9 3
+unary_op = Word PlaceWord 3
 
 -- nodes: "Assigned places (compile_lvalue) are Ident, Index or Error; INPUT also takes UserFuncCall."
 abbrev pub expr : Item

@@ -1,127 +1,84 @@
-// The leaves of the sheet: words, ranges, names, number literals, data, labels.
-ghost use Rattle.std.specs.Prelude.{◌≡◌, ◌+◌, ◌-◌, eqb};
-ghost use Rattle.recorder.specs.Word.{choose, either};
-ghost use Rattle.sheet.specs.Form.{between, is_letter, is_alnum, is_sigil, name_tail, is_name, is_absent, is_special, has_unit, in_line, take_word, absent_form, non_empty_form, high_form, low_form, number_form, head_form, range_form, text_form, name_form, datum_form, label_form, high_fits, low_fits, lacks_unit};
-ghost use Rattle.sheet.specs.Parts.{marked_at};
+// The leaves of the sheet: words, ranges, names, number literals, data, labels. Those of expressions are inlined always: a Walk goes
+// through memory where it is returned.
+ghost use Rattle.std.specs.Prelude.{◌≡◌, ◌+◌, ◌-◌};
+ghost use Rattle.recorder.specs.Word.{choose};
+ghost use Rattle.sheet.specs.Table.{kind_number};
+ghost use Rattle.sheet.specs.Form.{is_letter, is_alnum, is_inner, is_last, name_tail, is_name, is_absent, has_unit, in_line, take_word, absent_form, non_empty_form, half_form, number_form, head_form, range_form, text_form, name_form, datum_form, label_form, high_fits, low_fits, lacks_unit};
 
-use crate::form::{Line, Marked, Offence, Sort, Walk};
-use recorder::word::Range;
-
-pub fn within(a: u16, u: u16, b: u16) -> bool
-    ensures { result ≡ between a u b }
-{
-    if a <= u { u <= b } else { false }
-}
+use crate::form::{Kind, Line, Offence, Sort, Walk};
+use recorder::word::{Range, behind, behind_unit, kind_at, payload_at, range_at, unit_at};
 
 fn is_letter(u: u16) -> bool
     ensures { result ≡ is_letter u }
 {
-    if within(65, u, 90) {
-        return true;
-    }
-    within(97, u, 122)
+    matches!(u, 65..=90 | 97..=122)
 }
 
 fn is_alnum(u: u16) -> bool
     ensures { result ≡ is_alnum u }
 {
-    if is_letter(u) {
-        return true;
-    }
-    within(48, u, 57)
+    is_letter(u) || matches!(u, 48..=57)
 }
 
 // A unit within a name: a letter, a digit or a blank.
 fn is_inner(u: u16) -> bool
-    ensures { result ≡ either (is_alnum u) (eqb u 32) }
+    ensures { result ≡ is_inner u }
 {
-    if is_alnum(u) {
-        return true;
-    }
-    u == 32
+    is_alnum(u) || u == 32
 }
 
 // A name's last unit behind its first: a letter, a digit or a sigil.
 fn is_last(u: u16) -> bool
-    ensures { result ≡ either (is_alnum u) (is_sigil u) }
+    ensures { result ≡ is_last u }
 {
-    if is_alnum(u) {
-        return true;
-    }
-    if u == 37 {
-        return true;
-    }
-    u == 36
+    is_alnum(u) || u == 37 || u == 36
 }
 
 // The n units from a place, behind a name's first.
+#[tactic(auto, unfolding(crate::specs::Form::name_tail))]
 fn name_tail(text: &[u16], at: usize, n: usize) -> bool
     ensures { result ≡ name_tail text.now at n }
 {
     let mut p = at;
-    let mut left = n;
-    while 1 < left {
-        if is_inner(recorder::word::unit_at(text, p)) {
-            p = recorder::word::behind_unit(text, p);
-            left -= 1;
-        } else {
+    for _ in 1..n {
+        if !is_inner(unit_at(text, p)) {
             return false;
         }
+        p = behind_unit(text, p);
     }
-    if left == 0 {
-        return true;
-    }
-    is_last(recorder::word::unit_at(text, p))
+    n == 0 || is_last(unit_at(text, p))
 }
 
+#[tactic(auto, unfolding(crate::specs::Form::is_name))]
 fn is_name(text: &[u16], at: usize, n: usize) -> bool
     ensures { result ≡ is_name text.now at n }
 {
-    if n == 0 {
-        return false;
-    }
-    if is_letter(recorder::word::unit_at(text, at)) {
-        let p = recorder::word::behind_unit(text, at);
-        name_tail(text, p, n - 1)
-    } else {
-        false
-    }
+    0 < n && is_letter(unit_at(text, at)) && name_tail(text, behind_unit(text, at), n - 1)
 }
 
 // Whether a range of a line holds a name.
+#[tactic(auto, using(crate::proofs::Walks::no_units, crate::proofs::Walks::name_outside))]
 pub fn is_name_range(text: &[u16], line: Line, r: Range) -> bool
     ensures { result ≡ is_name text.now (line.base + r.start) (r.end - r.start) }
 {
-    let base = line.base;
     let start = r.start as usize;
     let end = r.end as usize;
-    if end <= start {
+    if end <= start || text.len() <= line.base || text.len() - line.base <= start {
         return false;
     }
-    if text.len() <= base {
-        return false;
-    }
-    if text.len() - base <= start {
-        return false;
-    }
-    is_name(text, base + start, end - start)
+    is_name(text, line.base + start, end - start)
 }
 
 pub fn is_absent(sheet: &[u32], at: usize) -> bool
     ensures { result ≡ is_absent sheet.now at }
 {
-    recorder::word::kind_at(sheet, at) == 2
+    kind_at(sheet, at) == Kind::Absent as u32
 }
 
 fn in_line(line: Line, r: Range) -> bool
     ensures { result ≡ in_line line r }
 {
-    let last = r.end as usize;
-    if r.start <= r.end {
-        last <= line.len
-    } else {
-        false
-    }
+    r.start <= r.end && r.end as usize <= line.len
 }
 
 fn has_unit(r: Range) -> bool
@@ -130,171 +87,140 @@ fn has_unit(r: Range) -> bool
     r.start < r.end
 }
 
-// A word of the kind k with a payload below n.
-pub fn take_word(sheet: &[u32], k: u32, n: u32, at: usize) -> Walk
-    ensures { result ≡ take_word sheet.now k n at }
+// A word of a kind with a payload below n.
+#[inline(always)]
+#[tactic(auto, unfolding(crate::specs::Form::take_word))]
+pub fn take_word(sheet: &[u32], k: Kind, n: u32, at: usize) -> Walk
+    ensures { result ≡ take_word sheet.now (kind_number k) n at }
 {
-    if recorder::word::kind_at(sheet, at) == k {
-        if recorder::word::payload_at(sheet, at) < n {
-            let p = recorder::word::behind(sheet, at);
-            Walk::Behind(p)
-        } else {
-            Walk::Stops(Offence::BadWord(at))
-        }
+    if kind_at(sheet, at) == k as u32 && payload_at(sheet, at) < n {
+        Ok(behind(sheet, at))
     } else {
-        Walk::Stops(Offence::BadWord(at))
+        Err(Offence::BadWord(at))
     }
+}
+
+// What stands where an option is absent.
+pub fn absent_form(sheet: &[u32], at: usize) -> Walk
+    ensures { result ≡ absent_form sheet.now at }
+{
+    take_word(sheet, Kind::Absent, 1, at)
 }
 
 // A count of at least one.
+#[tactic(auto, unfolding(crate::specs::Form::non_empty_form))]
 pub fn non_empty_form(sheet: &[u32], at: usize) -> Walk
     ensures { result ≡ non_empty_form sheet.now at }
 {
-    let w = take_word(sheet, 4, 16777216, at);
-    let Walk::Behind(p) = w else {
-        return w;
-    };
-    if recorder::word::payload_at(sheet, at) == 0 {
-        Walk::Stops(Offence::BadWord(at))
+    let p = take_word(sheet, Kind::Count, 16777216, at)?;
+    if payload_at(sheet, at) == 0 {
+        Err(Offence::BadWord(at))
     } else {
-        Walk::Behind(p)
+        Ok(p)
     }
 }
 
-// The exponents of zero and of a number too large.
-fn is_special(e: u32) -> bool
-    ensures { result ≡ is_special e }
-{
-    if e == 0 {
-        return true;
-    }
-    e == 256
-}
-
-// The high half of a number's mantissa.
+// Whether the halves of a mantissa may stand behind an exponent. The exponents of zero and of a number too large want zeros.
 fn high_fits(e: u32, m: u32) -> bool
     ensures { result ≡ high_fits e m }
 {
-    if is_special(e) { m == 0 } else { 32768 <= m }
+    if matches!(e, 0 | 256) {
+        m == 0
+    } else {
+        32768 <= m
+    }
 }
 
 fn low_fits(e: u32, m: u32) -> bool
     ensures { result ≡ low_fits e m }
 {
-    if m == 0 {
-        return true;
-    }
-    if is_special(e) { false } else { true }
+    m == 0 || !matches!(e, 0 | 256)
 }
 
-fn high_form(sheet: &[u32], e: u32, at: usize) -> Walk
-    ensures { result ≡ high_form sheet.now e at }
+// One half of a mantissa.
+#[inline(always)]
+fn half_form(sheet: &[u32], fits: bool, at: usize) -> Walk
+    ensures { result ≡ half_form sheet.now fits at }
 {
-    let w = take_word(sheet, 11, 65536, at);
-    let Walk::Behind(p) = w else {
-        return w;
-    };
-    if high_fits(e, recorder::word::payload_at(sheet, at)) {
-        Walk::Behind(p)
+    let p = take_word(sheet, Kind::Mantissa, 65536, at)?;
+    if fits {
+        Ok(p)
     } else {
-        Walk::Stops(Offence::BadWord(at))
-    }
-}
-
-fn low_form(sheet: &[u32], e: u32, at: usize) -> Walk
-    ensures { result ≡ low_form sheet.now e at }
-{
-    let w = take_word(sheet, 11, 65536, at);
-    let Walk::Behind(p) = w else {
-        return w;
-    };
-    if low_fits(e, recorder::word::payload_at(sheet, at)) {
-        Walk::Behind(p)
-    } else {
-        Walk::Stops(Offence::BadWord(at))
+        Err(Offence::BadWord(at))
     }
 }
 
 // A number literal's value.
+#[inline(always)]
+#[tactic(auto, unfolding(crate::specs::Form::number_form, crate::specs::Form::high_form, crate::specs::Form::low_form))]
 pub fn number_form(sheet: &[u32], at: usize) -> Walk
     ensures { result ≡ number_form sheet.now at }
 {
-    let w = take_word(sheet, 10, 257, at);
-    let Walk::Behind(p) = w else {
-        return w;
-    };
-    let e = recorder::word::payload_at(sheet, at);
-    let h = high_form(sheet, e, p);
-    let Walk::Behind(q) = h else {
-        return h;
-    };
-    low_form(sheet, e, q)
+    let p = take_word(sheet, Kind::Exponent, 257, at)?;
+    let e = payload_at(sheet, at);
+    let q = half_form(sheet, high_fits(e, payload_at(sheet, p)), p)?;
+    half_form(sheet, low_fits(e, payload_at(sheet, q)), q)
 }
 
 // The head of a statement or an expression.
+#[inline(always)]
 pub fn head_form(sheet: &[u32], c: Sort, at: usize) -> Walk
     ensures { result ≡ head_form sheet.now c at }
 {
-    if recorder::word::kind_at(sheet, at) == crate::form::node_kind(c) {
-        if crate::form::may_stand(c, recorder::word::payload_at(sheet, at)) {
-            let p = recorder::word::behind(sheet, at);
-            Walk::Behind(p)
-        } else {
-            Walk::Stops(Offence::BadWord(at))
-        }
+    if kind_at(sheet, at) == crate::form::node_kind(c) as u32
+        && crate::form::may_stand(c, payload_at(sheet, at))
+    {
+        Ok(behind(sheet, at))
     } else {
-        Walk::Stops(Offence::BadWord(at))
+        Err(Offence::BadWord(at))
     }
 }
 
+#[inline(always)]
+#[tactic(auto, unfolding(crate::specs::Form::range_form))]
 pub fn range_form(sheet: &[u32], line: Line, at: usize) -> Walk
     ensures { result ≡ range_form sheet.now line at }
 {
-    let w = take_word(sheet, 1, 16777216, at);
-    let Walk::Behind(p) = w else {
-        return w;
-    };
-    if in_line(line, recorder::word::range_at(sheet, at)) {
-        Walk::Behind(p)
+    let p = take_word(sheet, Kind::Range, 16777216, at)?;
+    if in_line(line, range_at(sheet, at)) {
+        Ok(p)
     } else {
-        Walk::Stops(Offence::BadRange(at))
+        Err(Offence::BadRange(at))
     }
 }
 
 // A range with a unit.
+#[tactic(auto, unfolding(crate::specs::Form::text_form))]
 pub fn text_form(sheet: &[u32], line: Line, at: usize) -> Walk
     ensures { result ≡ text_form sheet.now line at }
 {
-    let w = range_form(sheet, line, at);
-    let Walk::Behind(p) = w else {
-        return w;
-    };
-    if has_unit(recorder::word::range_at(sheet, at)) {
-        Walk::Behind(p)
+    let p = range_form(sheet, line, at)?;
+    if has_unit(range_at(sheet, at)) {
+        Ok(p)
     } else {
-        Walk::Stops(Offence::BadRange(at))
+        Err(Offence::BadRange(at))
     }
 }
 
+#[inline(always)]
+#[tactic(auto, unfolding(crate::specs::Form::name_form))]
 pub fn name_form(sheet: &[u32], text: &[u16], line: Line, at: usize) -> Walk
     ensures { result ≡ name_form sheet.now text.now line at }
 {
-    let w = range_form(sheet, line, at);
-    let Walk::Behind(p) = w else {
-        return w;
-    };
-    if is_name_range(text, line, recorder::word::range_at(sheet, at)) {
-        Walk::Behind(p)
+    let p = range_form(sheet, line, at)?;
+    if is_name_range(text, line, range_at(sheet, at)) {
+        Ok(p)
     } else {
-        Walk::Stops(Offence::BadRange(at))
+        Err(Offence::BadRange(at))
     }
 }
 
+#[inline(always)]
 pub fn optional_name_form(sheet: &[u32], text: &[u16], line: Line, at: usize) -> Walk
     ensures { result ≡ choose (is_absent sheet.now at) (absent_form sheet.now) (name_form sheet.now text.now line) at }
 {
     if is_absent(sheet, at) {
-        take_word(sheet, 2, 1, at)
+        absent_form(sheet, at)
     } else {
         name_form(sheet, text, line, at)
     }
@@ -304,9 +230,9 @@ pub fn optional_label_form(sheet: &[u32], at: usize) -> Walk
     ensures { result ≡ choose (is_absent sheet.now at) (absent_form sheet.now) (take_word sheet.now 3 65536) at }
 {
     if is_absent(sheet, at) {
-        take_word(sheet, 2, 1, at)
+        absent_form(sheet, at)
     } else {
-        take_word(sheet, 3, 65536, at)
+        take_word(sheet, Kind::Label, 65536, at)
     }
 }
 
@@ -314,53 +240,31 @@ pub fn optional_label_form(sheet: &[u32], at: usize) -> Walk
 fn lacks_unit(quoted: u32, r: Range) -> bool
     ensures { result ≡ lacks_unit quoted r }
 {
-    if quoted == 1 {
-        if has_unit(r) { false } else { true }
-    } else {
-        false
-    }
+    quoted == 1 && !has_unit(r)
 }
 
 // A datum: its range, and whether it is quoted.
+#[tactic(auto, unfolding(crate::specs::Form::datum_form))]
 pub fn datum_form(sheet: &[u32], line: Line, at: usize) -> Walk
     ensures { result ≡ datum_form sheet.now line at }
 {
-    let w = range_form(sheet, line, at);
-    let Walk::Behind(p) = w else {
-        return w;
-    };
-    let v = take_word(sheet, 5, 2, p);
-    let Walk::Behind(q) = v else {
-        return v;
-    };
-    let quoted = recorder::word::payload_at(sheet, p);
-    if lacks_unit(quoted, recorder::word::range_at(sheet, at)) {
-        return Walk::Stops(Offence::BadRange(at));
-    }
-    Walk::Behind(q)
-}
-
-fn marked(sheet: &[u32], at: usize) -> Marked
-    ensures { result ≡ marked_at sheet.now at }
-{
-    if is_absent(sheet, at) {
-        Marked::Absent
+    let p = range_form(sheet, line, at)?;
+    let q = take_word(sheet, Kind::Flag, 2, p)?;
+    if lacks_unit(payload_at(sheet, p), range_at(sheet, at)) {
+        Err(Offence::BadRange(at))
     } else {
-        Marked::Labelled
+        Ok(q)
     }
 }
 
 // A line's label: absent, or range and label.
+#[tactic(auto, unfolding(crate::specs::Form::label_form))]
 pub fn label_form(sheet: &[u32], line: Line, at: usize) -> Walk
     ensures { result ≡ label_form sheet.now line at }
 {
-    let m = marked(sheet, at);
-    let Marked::Labelled = m else {
-        return take_word(sheet, 2, 1, at);
-    };
-    let w = range_form(sheet, line, at);
-    let Walk::Behind(p) = w else {
-        return w;
-    };
-    take_word(sheet, 3, 65536, p)
+    if is_absent(sheet, at) {
+        return absent_form(sheet, at);
+    }
+    let p = range_form(sheet, line, at)?;
+    take_word(sheet, Kind::Label, 65536, p)
 }

@@ -1,59 +1,26 @@
 -- compile_stmt, compile_if and compile_stmts: one law for each way out.
-use mathlib.Core.Path.{◌≡◌, refl, ap, ◌∙◌}
+use mathlib.Core.Path.{◌≡◌, refl, sym, ap, ◌∙◌}
 use mathlib.Core.List.{List}
 use mathlib.Core.Bool.{Bool, true, false}
-use Prim.Native.Nat.{ℕ, zero, suc, ◌+◌, ◌-◌, ◌≤◌, ◌<◌}
+use Prim.Native.Nat.{ℕ, zero, suc, ◌-◌, ◌≤◌, ◌<◌}
 use native.Mathlib.Numerals.{sub-one}
-use native.Mathlib.Decide.{dec_lt}
 use native.Mathlib.Omega.{arith}
 use Rattle.recorder.specs.declared.word.Range.{Range}
 use Rattle.recorder.specs.Word.{payload_at, range_at, next, choose}
-use Rattle.recorder.specs.Mem.{Mem, mem, mem_r, on_rec, set_a, as_word, records_in}
+use Rattle.recorder.specs.Mem.{Mem, mem, mem_r, as_word, records_in}
 use Rattle.sheet.specs.declared.form.Sort.TheVariants.{Expr as exprSort, Stmt as stmtSort}
+use Rattle.sheet.specs.declared.form.Shape.{Shape}
 use Rattle.sheet.specs.declared.form.Shape.TheVariants.{If}
 use Rattle.sheet.specs.Table.{shape_fields}
 use Rattle.sheet.specs.Form.{is_absent}
 use Rattle.sheet.specs.Skip.{skip_node, skip_repeat, skip_list, skip_fields, skip_field, skip_times, skip_pair, skip_item}
 use Rattle.sheet.specs.Tree.{stmt_node, stmt_at, stmts_at, shape_of}
 use Rattle.sheet.proofs.Shapes.{fields_rule}
-use Rattle.rules.specs.declared.types.«Type».TheVariants.{Real}
 use Rattle.rules.specs.Stmt.{compile_stmt, compile_stmts, else_jump, end_here}
-use Rattle.nodes.specs.Compiled.{CompiledTyped, PayloadAt}
+use Rattle.nodes.specs.Compiled.{PayloadAt}
 use Rattle.expressions.specs.Body.{Body}
 use Rattle.expressions.proofs.ExprLaws.{Head}
-use Rattle.walk.specs.Shapes.{shape_by}
 use Rattle.statements.specs.Stmt.{IfHead, IfBody, CompiledStmt, CompiledStmts}
-
--- a number that is none of those from a to b is not between them
-step : (a n : ℕ) → a ≤ n → (n ≡ a → ⊥) → a + 1 ≤ n
-step a n h e = go (dec_lt a n)
-  where
-    go : Dec (a < n) → a + 1 ≤ n
-    go (yes y) = omega arith
-    go (no y) = absurd (e (omega arith))
-
-pub none_of_7 : (a n : ℕ) → a ≤ n → n < a + 7 → (n ≡ a → ⊥) → (n ≡ a + 1 → ⊥) → (n ≡ a + 2 → ⊥) → (n ≡ a + 3 → ⊥) → (n ≡ a + 4 → ⊥) → (n ≡ a + 5 → ⊥) → (n ≡ a + 6 → ⊥) → ⊥
-none_of_7 a n lo hi e0 e1 e2 e3 e4 e5 e6 =
-    let h1 = step a n lo e0 in
-    let h2 = step (a + 1) n h1 e1 in
-    let h3 = step (a + 2) n (omega arith) e2 in
-    let h4 = step (a + 3) n (omega arith) e3 in
-    let h5 = step (a + 4) n (omega arith) e4 in
-    let h6 = step (a + 5) n (omega arith) e5 in
-    let h7 = step (a + 6) n (omega arith) e6 in
-    omega arith
-
-pub none_of_8 : (a n : ℕ) → a ≤ n → n < a + 8 → (n ≡ a → ⊥) → (n ≡ a + 1 → ⊥) → (n ≡ a + 2 → ⊥) → (n ≡ a + 3 → ⊥) → (n ≡ a + 4 → ⊥) → (n ≡ a + 5 → ⊥) → (n ≡ a + 6 → ⊥) → (n ≡ a + 7 → ⊥) → ⊥
-none_of_8 a n lo hi e0 e1 e2 e3 e4 e5 e6 e7 =
-    let go = none_of_7 a n lo in
-    go (last (dec_lt n (a + 7))) e0 e1 e2 e3 e4 e5 e6
-  where
-    last : Dec (n < a + 7) → n < a + 7
-    last (yes y) = y
-    last (no y) = absurd (e7 (omega arith))
-
-pub from_17 : (n : ℕ) → 16 ≤ n → (n ≡ 16 → ⊥) → 17 ≤ n
-from_17 n h e = step 16 n h e
 
 -- a statement's case, and the place behind it
 node : (s : List ℕ) (left at k : ℕ) (r : Range) (p : ℕ) → Head s left at k r p → stmt_at s left at ≡ stmt_node s (left - 1) (stmt_at s (left - 1)) (shape_of k) k r p
@@ -70,25 +37,16 @@ pub stmt_zero : (s t : List ℕ) (base left at : ℕ) (r : Range) (m m1 : Mem) �
 unfolding stmt_at skip_node compile_stmt
 stmt_zero s t base left at r m m1 hr e f = rw e (record { place = refl; result = rw hr at f })
 
-pub stmt_plain : (s t : List ℕ) (base left at k : ℕ) (r : Range) (p n q : ℕ) (m m1 : Mem) → Head s left at k r p → (shape_by n ≡ shape_of k) × (n < 31) → (n ≡ 16 → ⊥)
-    → (n < 31 → (n ≡ 16 → ⊥) → Body s t base (left - 1) (shape_by n) k r p m m1 q) → CompiledStmt s t base left at m m1 q
-stmt_plain s t base left at k r p n q m m1 h e d f = let b = f e.1 d in
-    record { place = rw (over s left at k r p h, ← e.0) b.place; result = rw (node s left at k r p h, ← e.0) (b.result (stmt_at s (left - 1))) }
+pub stmt_plain : (s t : List ℕ) (base left at k : ℕ) (r : Range) (p q : ℕ) (x : Shape) (m m1 : Mem) → Head s left at k r p → x ≡ shape_of k → (x ≡ If → ⊥)
+    → ((x ≡ If → ⊥) → Body s t base (left - 1) x k r p m m1 q) → CompiledStmt s t base left at m m1 q
+stmt_plain s t base left at k r p q x m m1 h e d f = let b = f d in
+    record { place = rw (over s left at k r p h, ← e) b.place; result = rw (node s left at k r p h, ← e) (b.result (stmt_at s (left - 1))) }
 
-pub stmt_if : (s t : List ℕ) (base left at k : ℕ) (r : Range) (p n q : ℕ) (m m1 : Mem) → Head s left at k r p → (shape_by n ≡ shape_of k) × (n < 31) → n ≡ 16
+pub stmt_if : (s t : List ℕ) (base left at k : ℕ) (r : Range) (p q : ℕ) (x : Shape) (m m1 : Mem) → Head s left at k r p → x ≡ shape_of k → x ≡ If
     → IfBody s t base (left - 1) r p m m1 q → CompiledStmt s t base left at m m1 q
 unfolding stmt_node
-stmt_if s t base left at k r p n q m m1 h e d b = let f : If ≡ shape_of k = rw d at e.0 in
+stmt_if s t base left at k r p q x m m1 h e d b = let f : If ≡ shape_of k = sym d ∙ e in
     record { place = rw (over s left at k r p h, ← f) b.place; result = rw (node s left at k r p h, ← f) b.result }
-
--- the condition and its jump
-pub if_head : (s t : List ℕ) (base left : ℕ) (r : Range) (at q j : ℕ) (m m1 m2 : Mem) → CompiledTyped s t base left at Real m m1 q → j ≡ as_word (records_in m1.st)
-    → m2 ≡ (mem_r t).emit m1 19 r 4294967295 0 0 → IfHead s t base left r at m m2 q j
-if_head s t base left r at q j m m1 m2 x hj e = record { place = x.place; jump_is = rw (← x.result) hj; result = rw (← x.result) e }
-
-pub ends_here : (l l' : List ℕ) (s : List ℕ) (j h : ℕ) → h ≡ as_word (records_in s) → l' ≡ on_rec (set_a h) l s j
-    → (t n b : List ℕ) (base : ℕ) → mem l' n b s ≡ end_here (mem_r t) t base j (mem l n b s)
-ends_here l l' s j h e f t n b base = rw (f, e)
 
 pub else_jump_lem : (l l' l'' : List ℕ) (s s' : List ℕ) (j : ℕ) (r : Range)
     → ((t n b : List ℕ) (base : ℕ) → mem l' n b s' ≡ else_jump (mem_r t) t base r (mem l n b s))

@@ -9,6 +9,7 @@ use recorder::codegen::St;
 use recorder::label::Addr;
 use recorder::word::Range;
 use rules::types::Type;
+use sheet::form::Shape;
 
 // What an IF's condition and jump leave besides the state: the place behind the condition, the jump's address.
 #[derive(Clone, Copy)]
@@ -114,25 +115,14 @@ pub fn compile_stmt(
         return at;
     }
     let k = recorder::word::payload_at(*sheet, at);
-    let n = walk::shape::shape_of(k);
     let p = recorder::word::behind(*sheet, recorder::word::behind(*sheet, at));
-    if n == 16 {
-        return compile_if(sheet, text, list, notes, book, st, base, p, left - 1, r);
+    match walk::shape::shape_of(k) {
+        Shape::If => compile_if(sheet, text, list, notes, book, st, base, p, left - 1, r),
+        s => {
+            let rest = left - 1;
+            crate::plain::compile_plain(sheet, text, list, notes, book, st, base, p, rest, s, k, r)
+        }
     }
-    crate::plain::compile_plain(
-        sheet,
-        text,
-        list,
-        notes,
-        book,
-        st,
-        base,
-        p,
-        left - 1,
-        k,
-        r,
-        n,
-    )
 }
 
 // The counted statements at a place.
@@ -152,10 +142,8 @@ pub fn compile_stmts(
 {
     let c = expressions::expr::read_payload(*sheet, at);
     let mut p = c.at;
-    let mut more = c.value;
-    while 0 < more {
+    for _ in 0..c.value {
         p = compile_stmt(sheet, text, list, notes, book, st, base, p, left);
-        more -= 1;
     }
     p
 }

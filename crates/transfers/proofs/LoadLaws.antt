@@ -2,15 +2,14 @@
 use mathlib.Core.Path.{◌≡◌, refl, sym as inv, ap, ◌∙◌}
 use mathlib.Core.List.{List}
 use mathlib.Core.Bool.{Bool, true, false}
-use Prim.Native.Nat.{ℕ, zero, suc, ◌+◌, ◌*◌, ◌-◌, ◌≤◌, ◌<◌}
-use lib.Dec.{ltb, leb, eqb}
+use Prim.Native.Nat.{ℕ, zero, suc, ◌-◌, ◌≤◌, ◌<◌}
 use lib.ListN.{get_or}
-use borrow.Author.Tests.{lt-ltb, le-ltb, le-leb, lt-leb, ne_eqb}
+use borrow.Author.Tests.{lt-ltb, le-ltb}
 use native.Mathlib.Numerals.{sub-one}
 use native.Mathlib.Omega.{arith}
 use Rattle.recorder.specs.declared.word.Range.{Range}
-use Rattle.recorder.specs.Word.{pick, both, payload_at, range_at, next}
-use Rattle.recorder.specs.Mem.{Mem, mem, mem_r, byte_list, byte_st}
+use Rattle.recorder.specs.Word.{pick, payload_at, range_at, next}
+use Rattle.recorder.specs.Mem.{Mem, mem, mem_r}
 use Rattle.sheet.specs.declared.form.Sort.TheVariants.{Expr as exprSort}
 use Rattle.sheet.specs.declared.form.Shape.TheVariants.{Load}
 use Rattle.sheet.specs.Skip.{skip_node, skip_repeat, skip_list, skip_fields, skip_field, skip_times, skip_pair, skip_item}
@@ -18,72 +17,21 @@ use Rattle.sheet.specs.Tree.{absent, given, Expr, Exprs, more, number_lit, expr_
 use Rattle.rules.specs.declared.types.«Type».TheVariants.{Real}
 use Rattle.rules.specs.Name.{text_place}
 use Rattle.rules.specs.Expr.{compile_typed}
-use Rattle.rules.specs.Stmt.{compile_stmt, ByteRead, fresh, signed, byte_so_far, no_byte, up_to255, digit, plus, byte_unit, byte_units, final_byte, byte_of, all_given, bad_byte, bad_bytes, all_bytes, load_byte, load_bytes, load_node, compile_load}
+use Rattle.rules.specs.Stmt.{compile_stmt, ByteRead, fresh, byte_unit, byte_units, final_byte, byte_of, all_given, bad_byte, bad_bytes, all_bytes, load_byte, load_bytes, load_node, compile_load}
 use Rattle.nodes.specs.Compiled.{CompiledTyped, PayloadAt}
 use Rattle.expressions.specs.Body.{Body}
 use Rattle.expressions.proofs.Lists.{exprs_step, repeat_step}
 use Rattle.expressions.proofs.ExprLaws.{range_of_lem, how_many_lem}
+use Rattle.transfers.specs.declared.loads.ReadByte.{ReadByte}
 use Rattle.transfers.specs.Parts.{read_of, opt_byte, BytesNoted, Loaded}
 
 -- reading a byte
-pub byte_fits : (n : ℕ) → n < 256 → read_of n ≡ up_to255 n
-byte_fits n h = rw (lt-ltb _ _ h)
-
-pub byte_above : (n : ℕ) → 256 ≤ n → read_of 258 ≡ up_to255 n
-byte_above n h = rw (le-ltb _ _ h)
-
-pub digit_more : (b d x : ℕ) → b < 256 → read_of x ≡ up_to255 (b * 10 + d) → read_of x ≡ digit (read_of b) d
-digit_more b d x h e = let q : ltb b 256 ≡ true = lt-ltb _ _ h in let f : read_of b ≡ byte_so_far b = rw q in e ∙ inv (ap (λ z. digit z d) f)
-
-pub digit_first : (b d x : ℕ) → b ≡ 256 → read_of x ≡ up_to255 d → read_of x ≡ digit (read_of b) d
-digit_first b d x h e = let f : read_of b ≡ fresh = rw h in e ∙ inv (ap (λ z. digit z d) f)
-
-pub digit_signed : (b d x : ℕ) → b ≡ 257 → read_of x ≡ up_to255 d → read_of x ≡ digit (read_of b) d
-digit_signed b d x h e = let f : read_of b ≡ signed = rw h in e ∙ inv (ap (λ z. digit z d) f)
-
-pub digit_none : (b d : ℕ) → 256 ≤ b → (b ≡ 256 → ⊥) → (b ≡ 257 → ⊥) → read_of 258 ≡ digit (read_of b) d
-digit_none b d h i j =
-    let x : ltb b 256 ≡ false = le-ltb _ _ h in
-    let y : eqb b 256 ≡ false = ne_eqb _ _ i in
-    let z : eqb b 257 ≡ false = ne_eqb _ _ j in
-    let f : read_of b ≡ no_byte = rw (x, y, z) in
-    inv (ap (λ w. digit w d) f)
-
-pub plus_first : (b : ℕ) → b ≡ 256 → read_of 257 ≡ plus (read_of b)
-plus_first b h = let f : read_of b ≡ fresh = rw h in inv (ap plus f)
-
-plus_late : (b : ℕ) (x y z : Bool) → z ≡ false → no_byte ≡ plus (pick x (byte_so_far b) (pick z fresh (pick y signed no_byte)))
-plus_late b true y z e = refl
-plus_late b false true z e = rw e
-plus_late b false false z e = rw e
-
-pub plus_none : (b : ℕ) → (b ≡ 256 → ⊥) → read_of 258 ≡ plus (read_of b)
-plus_none b h = plus_late b (ltb b 256) (eqb b 257) (eqb b 256) (ne_eqb _ _ h)
-
-pub unit_blank : (b u : ℕ) → u ≡ 32 → read_of b ≡ byte_unit (read_of b) u
-unit_blank b u e = rw e
-
-pub unit_plus : (b u x : ℕ) → u ≡ 43 → read_of x ≡ plus (read_of b) → read_of x ≡ byte_unit (read_of b) u
-unit_plus b u x e p = let f : byte_unit (read_of b) u ≡ plus (read_of b) = rw e in p ∙ inv f
-
-unit_by : (b : ByteRead) (u : ℕ) (x y : Bool) → eqb u 32 ≡ false → eqb u 43 ≡ false → leb 48 u ≡ x → leb u 57 ≡ y → byte_unit b u ≡ pick (both x y) (digit b (u - 48)) no_byte
-unit_by b u x y e f g h = rw (e, f, g, h)
-
-pub unit_low : (b u : ℕ) → (u ≡ 32 → ⊥) → (u ≡ 43 → ⊥) → u < 48 → read_of 258 ≡ byte_unit (read_of b) u
-unit_low b u e f h = inv (unit_by (read_of b) u false (leb u 57) (ne_eqb _ _ e) (ne_eqb _ _ f) (lt-leb _ _ h) refl)
-
-pub unit_high : (b u : ℕ) → (u ≡ 32 → ⊥) → (u ≡ 43 → ⊥) → 48 ≤ u → 57 < u → read_of 258 ≡ byte_unit (read_of b) u
-unit_high b u e f g h = inv (unit_by (read_of b) u true false (ne_eqb _ _ e) (ne_eqb _ _ f) (le-leb _ _ g) (lt-leb _ _ h))
-
-pub unit_digit : (b u x : ℕ) → (u ≡ 32 → ⊥) → (u ≡ 43 → ⊥) → 48 ≤ u → u ≤ 57 → read_of x ≡ digit (read_of b) (u - 48) → read_of x ≡ byte_unit (read_of b) u
-unit_digit b u x e f g h p = p ∙ inv (unit_by (read_of b) u true true (ne_eqb _ _ e) (ne_eqb _ _ f) (le-leb _ _ g) (le-leb _ _ h))
-
 units_more : (t : List ℕ) (n at : ℕ) (b : ByteRead) → 0 < n → byte_units t at n b ≡ byte_units t (next t at) (n - 1) (byte_unit b (get_or t at 0))
 unfolding byte_units
 units_more t zero at b h = absurd (omega arith)
 units_more t (suc n) at b h = rw sub-one
 
-pub units_step : (t : List ℕ) (n at p b c u : ℕ) → 0 < n → u ≡ get_or t at 0 → read_of c ≡ byte_unit (read_of b) u → p ≡ next t at → byte_units t p (n - 1) (read_of c) ≡ byte_units t at n (read_of b)
+pub units_step : (t : List ℕ) (n at p : ℕ) (b c : ReadByte) (u : ℕ) → 0 < n → u ≡ get_or t at 0 → read_of c ≡ byte_unit (read_of b) u → p ≡ next t at → byte_units t p (n - 1) (read_of c) ≡ byte_units t at n (read_of b)
 units_step t n at p b c u h hu e hp =
     let f : read_of c ≡ byte_unit (read_of b) (get_or t at 0) = e ∙ ap (λ z. byte_unit (read_of b) z) hu in
     let g : byte_units t p (n - 1) (read_of c) ≡ byte_units t (next t at) (n - 1) (read_of c) = ap (λ z. byte_units t z (n - 1) (read_of c)) hp in
@@ -99,23 +47,16 @@ pub byte_zero : (s t : List ℕ) (base left at : ℕ) → left ≡ 0 → opt_byt
 unfolding expr_at
 byte_zero s t base left at e = rw e
 
-final_is : (n : ℕ) (x y z : Bool) → pick x (given n) absent ≡ final_byte (pick x (byte_so_far n) (pick y fresh (pick z signed no_byte)))
-final_is n true y z = refl
-final_is n false true z = refl
-final_is n false false true = refl
-final_is n false false false = refl
-
 literal_at : (s : List ℕ) (left at : ℕ) → (left ≡ 0 → ⊥) → payload_at s at ≡ 2
     → expr_at s left at ≡ number_lit (range_at s (next s at)) (payload_at s (next s (next s at))) (mantissa_at s (next s (next s (next s at))))
 unfolding expr_at expr_node
 literal_at s zero at d e = absurd (d refl)
 literal_at s (suc left) at d e = rw e
 
-pub byte_literal : (s t : List ℕ) (base left at k : ℕ) (r : Range) (a n x : ℕ) → (left ≡ 0 → ⊥) → k ≡ payload_at s at → k ≡ 2 → r ≡ range_at s (next s at) → a ≡ text_place base r.start → n ≡ r.end - r.start
-    → read_of x ≡ byte_units t a n fresh → opt_byte x ≡ byte_of t base (expr_at s left at)
-byte_literal s t base left at k r a n x d hk e hr ha hn p =
+pub byte_literal : (s t : List ℕ) (base left at k : ℕ) (r : Range) (a n : ℕ) (b : ReadByte) (x : ℕ) → (left ≡ 0 → ⊥) → k ≡ payload_at s at → k ≡ 2 → r ≡ range_at s (next s at) → a ≡ text_place base r.start → n ≡ r.end - r.start
+    → read_of b ≡ byte_units t a n fresh → opt_byte x ≡ final_byte (read_of b) → opt_byte x ≡ byte_of t base (expr_at s left at)
+byte_literal s t base left at k r a n b x d hk e hr ha hn p f =
     let g : payload_at s at ≡ 2 = inv hk ∙ e in
-    let f : opt_byte x ≡ final_byte (read_of x) = final_is x (ltb x 256) (eqb x 256) (eqb x 257) in
     let q : byte_units t a n fresh ≡ byte_units t (text_place base r.start) (r.end - r.start) fresh = rw (ha, hn) in
     let l : byte_of t base (expr_at s left at) ≡ byte_of t base (number_lit r (payload_at s (next s (next s at))) (mantissa_at s (next s (next s (next s at))))) = rw (literal_at s left at d g, hr) in
     f ∙ ap final_byte (p ∙ q) ∙ inv l
@@ -141,22 +82,6 @@ byte_other s t base (suc left) at k hk h =
     no_literal s t base (expr_at s left) (skip_node s left exprSort) (payload_at s at) (range_at s (next s at)) (next s (next s at)) (λ z. h (hk ∙ z))
 
 -- one argument's note, and its entry
-pub byte_good : (t : List ℕ) (base v : ℕ) (r : Range) (m : Mem) → v < 256 → m ≡ bad_byte (mem_r t) t base (opt_byte v) r m
-byte_good t base v r m h = rw (lt-ltb _ _ h)
-
-pub byte_bad : (t : List ℕ) (base v : ℕ) (r : Range) (m m1 : Mem) → 256 ≤ v → m1 ≡ (mem_r t).note m 12 r 1 → m1 ≡ bad_byte (mem_r t) t base (opt_byte v) r m
-byte_bad t base v r m m1 h p = rw (le-ltb _ _ h) p
-
-pub entry_at : (l o b b' : List ℕ) (s s' : List ℕ) (x n v : ℕ) → (b' ≡ byte_list b s x n v) × (s' ≡ byte_st b s) → mem l o b' s' ≡ mem l o (byte_list b s x n v) (byte_st b s)
-entry_at l o b b' s s' x n v e = rw (e.0, e.1)
-
-pub load_made : (t : List ℕ) (base v : ℕ) (r : Range) (a n : ℕ) (m m1 : Mem) → v < 256 → a ≡ text_place base r.start → n ≡ r.end - r.start → m1 ≡ (mem_r t).byte m a n v
-    → m1 ≡ load_byte (mem_r t) t base (opt_byte v) r m
-load_made t base v r a n m m1 h ha hn p = rw (lt-ltb _ _ h, p, ha, hn)
-
-pub load_none : (t : List ℕ) (base v : ℕ) (r : Range) (m : Mem) → 256 ≤ v → m ≡ load_byte (mem_r t) t base (opt_byte v) r m
-load_none t base v r m h = rw (le-ltb _ _ h)
-
 -- loops over the arguments
 bad_more : (t : List ℕ) (base : ℕ) (e : Expr) (es : Exprs) (m : Mem) → bad_bytes (mem_r t) t base (more e es) m ≡ bad_bytes (mem_r t) t base es (bad_byte (mem_r t) t base (byte_of t base e) (expr_range e) m)
 unfolding bad_bytes

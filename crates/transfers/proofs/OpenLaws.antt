@@ -2,8 +2,7 @@
 use mathlib.Core.Path.{◌≡◌, sym as inv, ◌∙◌}
 use mathlib.Core.List.{List}
 use mathlib.Core.Bool.{Bool, true, false}
-use Prim.Native.Nat.{ℕ, ◌≤◌, ◌<◌}
-use borrow.Author.Tests.{lt-ltb, le-ltb, ne_eqb}
+use Prim.Native.Nat.{ℕ}
 use Rattle.recorder.specs.declared.word.Range.{Range}
 use Rattle.recorder.specs.Word.{range_at, next}
 use Rattle.recorder.specs.Mem.{Mem, mem_r}
@@ -16,18 +15,6 @@ use Rattle.rules.specs.Stmt.{compile_stmt, len_notes, compile_open}
 use Rattle.nodes.specs.Compiled.{CompiledTyped, PayloadAt}
 use Rattle.expressions.specs.Body.{Body}
 use Rattle.transfers.specs.Parts.{open_call, Opened}
-
-pub len_noted : (t : List ℕ) (base mode : ℕ) (r : Range) (m m1 : Mem) → 1 < mode → m1 ≡ (mem_r t).note m 12 r 1 → m1 ≡ len_notes (mem_r t) t base mode r m
-len_noted t base mode r m m1 h p = rw (lt-ltb _ _ h) p
-
-pub len_fine : (t : List ℕ) (base mode : ℕ) (r : Range) (m : Mem) → mode ≤ 1 → m ≡ len_notes (mem_r t) t base mode r m
-len_fine t base mode r m h = rw (le-ltb _ _ h)
-
-pub open_error : (t : List ℕ) (mode : ℕ) (r : Range) (m : Mem) → mode ≡ 0 → m ≡ open_call (mem_r t) mode r m
-open_error t mode r m e = rw e
-
-pub open_called : (t : List ℕ) (mode : ℕ) (r : Range) (m m1 : Mem) → (mode ≡ 0 → ⊥) → m1 ≡ (mem_r t).emit m 34 r mode 1 0 → m1 ≡ open_call (mem_r t) mode r m
-open_called t mode r m m1 h p = simp (ne_eqb _ _ h) p
 
 pub no_len : (s t : List ℕ) (base left mode : ℕ) (r : Range) (at : ℕ) (k : Bool) (p : ℕ) (m m1 : Mem) → k ≡ is_absent s at → k ≡ true → p ≡ next s at → m1 ≡ (mem_r t).emit m 34 r mode 0 0
     → Opened s t base left mode r at m m1 p

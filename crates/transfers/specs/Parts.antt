@@ -8,6 +8,8 @@ use Rattle.sheet.specs.declared.form.Sort.TheVariants.{Expr as exprSort}
 use Rattle.sheet.specs.Form.{is_absent}
 use Rattle.sheet.specs.Skip.{skip_node, skip_repeat}
 use Rattle.sheet.specs.Tree.{Opt, absent, given, opt_at, len_at, args_at}
+use Rattle.transfers.specs.declared.loads.ReadByte.{ReadByte}
+use Rattle.transfers.specs.declared.loads.ReadByte.TheVariants.{Value, Nothing, Plus, Bad}
 use Rattle.rules.specs.Stmt.{ByteRead, fresh, signed, byte_so_far, no_byte, bad_bytes, load_node, open_node}
 
 abbrev pub open_call : {S : Type 0} → Recorder S → ℕ → Range → S → S
@@ -18,10 +20,14 @@ pub record Opened (s t : List ℕ) (base left mode : ℕ) (r : Range) (at : ℕ)
   pub place : p ≡ choose (is_absent s at) (next s) (λ q. skip_node s left exprSort (next s q)) at
   pub result : m' ≡ open_node (mem_r t) t base r mode (opt_at s (len_at s left) at) m
 
--- a byte that is being read, as the code's number
-abbrev pub read_of : ℕ → ByteRead
-read_of n = pick (ltb n 256) (byte_so_far n) (pick (eqb n 256) fresh (pick (eqb n 257) signed no_byte))
+-- a byte that is being read, as the code's value
+abbrev pub read_of : ReadByte → ByteRead
+read_of (Value n) = byte_so_far n
+read_of Nothing = fresh
+read_of Plus = signed
+read_of Bad = no_byte
 
+-- a byte, and 256 or more for none
 abbrev pub opt_byte : ℕ → Opt ℕ
 opt_byte n = pick (ltb n 256) (given n) absent
 

@@ -2,7 +2,7 @@
 ghost use Rattle.std.specs.Prelude.{◌≡◌, List, ℕ};
 ghost use Rattle.recorder.specs.Mem.{mem, mem_r};
 ghost use Rattle.sheet.specs.Tree.{expr_at, args_at};
-ghost use Rattle.rules.specs.Stmt.{fresh, up_to255, digit, plus, byte_unit, byte_units, byte_of, bad_byte, all_bytes, load_byte, load_bytes};
+ghost use Rattle.rules.specs.Stmt.{fresh, up_to255, digit, plus, byte_unit, byte_units, final_byte, byte_of, bad_byte, all_bytes, load_byte, load_bytes};
 ghost use Rattle.expressions.specs.Body.{Body};
 ghost use Rattle.transfers.specs.Parts.{read_of, opt_byte, BytesNoted, Loaded};
 
@@ -11,68 +11,80 @@ use recorder::word::Range;
 use rules::types::Type;
 use sheet::form::{Shape, Sort};
 
-// A byte that is being read is a number: below 256 its value so far, 256 nothing yet, 257 a plus, 258 no byte.
-fn up_to_255(n: u32) -> u32
+// A byte that is being read: its value so far, nothing yet, a plus, or what is no byte.
+#[derive(Clone, Copy)]
+enum ReadByte {
+    Value(u8),
+    Nothing,
+    Plus,
+    Bad,
+}
+
+fn up_to_255(n: u32) -> ReadByte
     ensures { read_of result ≡ up_to255 n }
 {
-    if n < 256 { n } else { 258 }
+    if n < 256 {
+        ReadByte::Value(n as u8)
+    } else {
+        ReadByte::Bad
+    }
 }
 
-fn digit_behind(b: u32, d: u16) -> u32
+fn digit_behind(b: ReadByte, d: u16) -> ReadByte
     ensures { read_of result ≡ digit (read_of b) d }
 {
-    if b < 256 {
-        return up_to_255(b * 10 + (d as u32));
+    match b {
+        ReadByte::Value(v) => up_to_255(v as u32 * 10 + d as u32),
+        ReadByte::Nothing | ReadByte::Plus => up_to_255(d as u32),
+        ReadByte::Bad => ReadByte::Bad,
     }
-    if b == 256 {
-        return up_to_255(d as u32);
-    }
-    if b == 257 {
-        return up_to_255(d as u32);
-    }
-    258
 }
 
-fn plus_behind(b: u32) -> u32
+fn plus_behind(b: ReadByte) -> ReadByte
     ensures { read_of result ≡ plus (read_of b) }
 {
-    if b == 256 { 257 } else { 258 }
+    match b {
+        ReadByte::Nothing => ReadByte::Plus,
+        _ => ReadByte::Bad,
+    }
 }
 
 // One more unit: blanks are passed over.
-fn byte_unit(b: u32, u: u16) -> u32
+fn byte_unit(b: ReadByte, u: u16) -> ReadByte
     ensures { read_of result ≡ byte_unit (read_of b) u }
 {
-    if u == 32 {
-        return b;
+    match u {
+        32 => b,
+        43 => plus_behind(b),
+        48..=57 => digit_behind(b, u - 48),
+        _ => ReadByte::Bad,
     }
-    if u == 43 {
-        return plus_behind(b);
-    }
-    if u < 48 {
-        return 258;
-    }
-    if 57 < u {
-        return 258;
-    }
-    digit_behind(b, u - 48)
 }
 
-fn byte_units(text: &[u16], at: usize, n: u32) -> u32
+fn byte_units(text: &[u16], at: usize, n: u32) -> ReadByte
     ensures { read_of result ≡ byte_units text.now at n fresh }
 {
     let mut p = at;
-    let mut more = n;
-    let mut b: u32 = 256;
-    while 0 < more {
+    let mut b = ReadByte::Nothing;
+    for _ in 0..n {
         b = byte_unit(b, recorder::word::unit_at(text, p));
         p = recorder::word::behind_unit(text, p);
-        more -= 1;
     }
     b
 }
 
-// The byte that the argument at a place is; 256 or more if it is none.
+// The byte that was read, and 256 for none.
+fn byte_value(b: ReadByte) -> u32
+    ensures { opt_byte result ≡ final_byte (read_of b) }
+{
+    match b {
+        ReadByte::Value(v) => v as u32,
+        _ => 256,
+    }
+}
+
+// The byte that the argument at a place is, and 256 for none.
+#[tactic(auto, using(crate::proofs::LoadLaws::byte_zero, crate::proofs::LoadLaws::byte_other))]
 fn byte_of(sheet: &[u32], text: &[u16], base: u32, at: usize, left: usize) -> u32
     ensures { opt_byte result ≡ byte_of text.now base (expr_at sheet.now left at) }
 {
@@ -83,7 +95,7 @@ fn byte_of(sheet: &[u32], text: &[u16], base: u32, at: usize, left: usize) -> u3
         let r = expressions::expr::node_range(sheet, at);
         let a = rules::name::text_place(base, r.start as u32);
         let n = rules::name::units(r);
-        byte_units(text, a as usize, n)
+        byte_value(byte_units(text, a as usize, n))
     } else {
         256
     }
@@ -93,10 +105,9 @@ fn byte_of(sheet: &[u32], text: &[u16], base: u32, at: usize, left: usize) -> u3
 fn bad_byte(notes: &mut [u32], st: &mut St, v: u32, r: Range)
     ensures { (t l b : List ℕ) (base : ℕ) → mem l notes.new b st.new ≡ bad_byte (mem_r t) t base (opt_byte v) r (mem l notes.old b st.old) }
 {
-    if v < 256 {
-        return;
+    if 255 < v {
+        recorder::codegen::note(notes, st, 12, r, 1)
     }
-    recorder::codegen::note(notes, st, 12, r, 1)
 }
 
 // The notes for so many arguments, and the place behind them.
@@ -113,13 +124,11 @@ fn bad_bytes(
     ensures { BytesNoted sheet.now.now text.now.now base left n at notes.old st.old notes.new st.new result }
 {
     let mut p = at;
-    let mut more = n;
-    while 0 < more {
+    for _ in 0..n {
         let v = byte_of(*sheet, *text, base, p, left);
         let r = expressions::expr::node_range(*sheet, p);
         bad_byte(notes, st, v, r);
         p = walk::stmt::skip_expr(*sheet, p, left);
-        more -= 1;
     }
     p
 }
@@ -129,13 +138,11 @@ fn all_bytes(sheet: &[u32], text: &[u16], base: u32, at: usize, left: usize, n: 
     ensures { result ≡ all_bytes (mem_r text.now) text.now base (args_at sheet.now left n at) }
 {
     let mut p = at;
-    let mut more = n;
-    while 0 < more {
+    for _ in 0..n {
         if 255 < byte_of(sheet, text, base, p, left) {
             return false;
         }
         p = walk::stmt::skip_expr(sheet, p, left);
-        more -= 1;
     }
     true
 }
@@ -164,13 +171,11 @@ fn load_bytes(
     ensures { (l o : List ℕ) → mem l o book.new st.new ≡ load_bytes (mem_r text.now.now) text.now.now base (args_at sheet.now.now left n at) (mem l o book.old st.old) }
 {
     let mut p = at;
-    let mut more = n;
-    while 0 < more {
+    for _ in 0..n {
         let v = byte_of(*sheet, *text, base, p, left);
         let r = expressions::expr::node_range(*sheet, p);
         load_one(book, st, base, v, r);
         p = walk::stmt::skip_expr(*sheet, p, left);
-        more -= 1;
     }
 }
 

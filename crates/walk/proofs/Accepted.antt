@@ -15,24 +15,24 @@ use Rattle.sheet.specs.declared.form.Times.TheVariants.{Once, Optional, List as 
 use Rattle.sheet.specs.declared.form.Field.{Field}
 use Rattle.sheet.specs.declared.form.Offence.{Offence}
 use Rattle.sheet.specs.declared.form.Offence.TheVariants.{BadWord, BadRange, Fseek}
-use Rattle.sheet.specs.declared.form.Walk.{Walk}
-use Rattle.sheet.specs.declared.form.Walk.TheVariants.{Behind, Stops}
+use Rattle.sheet.specs.Walk.{Walk}
+use Rattle.std.specs.Prelude.{Ok, Err}
 use Rattle.sheet.specs.declared.form.Line.{Line}
-use Rattle.sheet.specs.Table.{node_kind, may_stand, expr_range_item, own_range, fields_of, is_fseek}
+use Rattle.sheet.specs.Table.{kind_number, node_kind, may_stand, expr_range_item, own_range, fields_of, is_fseek}
 use Rattle.sheet.specs.Form.{then, is_absent, has_unit, is_name_range, take_word, absent_form, non_empty_form, high_form, low_form, number_form, head_form, in_line, range_form, text_form, datum_form, name_form, source_rest, element_rest, item_form, pair_form, repeat_form, list_form, times_form, field_form, fields_form, body_form, node_form, high_fits, low_fits, lacks_unit}
 use Rattle.sheet.specs.Skip.{skip_source, skip_element, skip_item, skip_pair, skip_repeat, skip_list, skip_times, skip_field, skip_fields, skip_node}
 
 -- where the walk is accepted, it ends at x
 pub record Lands (w : Walk) (x : ℕ) : Type 0 where
-  pub ends : (p : ℕ) → w ≡ Behind p → p ≡ x
+  pub ends : (p : ℕ) → w ≡ Ok p → p ≡ x
 
-pub lands_at : (x : ℕ) → Lands (Behind x) x
+pub lands_at : (x : ℕ) → Lands (Ok x) x
 lands_at x = record { ends = λ p e. let z : p ≡ x = cc in z }
 
-pub lands_never : (o : Offence) (x : ℕ) → Lands (Stops o) x
+pub lands_never : (o : Offence) (x : ℕ) → Lands (Err o) x
 lands_never o x = record { ends = λ p e. let z : ◌≡◌ {A = ℕ} 0 1 = cc in absurd (omega arith) }
 
-lands_same : (p x : ℕ) → Lands (Behind p) x → p ≡ x
+lands_same : (p x : ℕ) → Lands (Ok p) x → p ≡ x
 lands_same p x h = h.ends p refl
 
 pub lands_pick : (b : Bool) (v w : Walk) (x : ℕ) → Lands v x → Lands w x → Lands (pick b v w) x
@@ -48,8 +48,8 @@ lands_either true f g p x a b = a
 lands_either false f g p x a b = b
 
 pub lands_then : (w : Walk) (f : ℕ → Walk) (x y : ℕ) → Lands w x → Lands (f x) y → Lands (then w f) y
-lands_then (Behind p) f x y a b = let e : p ≡ x = lands_same p x a in rw e b
-lands_then (Stops o) f x y a b = lands_never o y
+lands_then (Ok p) f x y a b = let e : p ≡ x = lands_same p x a in rw e b
+lands_then (Err o) f x y a b = lands_never o y
 
 module _ (s : List ℕ) where
   pub word_lands : (k n p : ℕ) → Lands (take_word s k n p) (next s p)
@@ -107,7 +107,7 @@ module _ (s : List ℕ) where
       pub item_lands : (i : Item) (p : ℕ) → Lands (item_form s t line child i p) (skip_item s skip i p)
       unfolding item_form skip_item
       item_lands Nothing p = lands_at p
-      item_lands (Word k n) p = word_lands k n p
+      item_lands (Word k n) p = word_lands (kind_number k) n p
       item_lands range p = range_lands line p
       item_lands name p = name_lands p
       item_lands optionalName p = lands_either (is_absent s p) (absent_form s) (name_form s t line) p (next s p) (word_lands 2 1 p) (name_lands p)
@@ -177,5 +177,5 @@ module _ (s : List ℕ) where
         (body_lands (node_form s t line left) (skip_node s left) (node_lands left) c (payload_at s p) (next s p)))
 
     -- THEOREM: behind an accepted statement or expression stands what the skip finds
-    pub accepted : (left : ℕ) (c : Sort) (p q : ℕ) → node_form s t line left c p ≡ Behind q → q ≡ skip_node s left c p
+    pub accepted : (left : ℕ) (c : Sort) (p q : ℕ) → node_form s t line left c p ≡ Ok q → q ≡ skip_node s left c p
     accepted left c p q e = (node_lands left c p).ends q e

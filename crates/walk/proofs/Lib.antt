@@ -7,4 +7,3 @@ pub mod LinesFit
 pub mod Accepted
 pub mod Depth
 pub mod Local
-pub mod Shapes

@@ -12,11 +12,11 @@ use Rattle.recorder.specs.Word.{pick, choose, both, kind_at, payload_at, next, r
 use Rattle.recorder.proofs.Bools.{both_left}
 use Rattle.sheet.specs.declared.form.Offence.{Offence}
 use Rattle.sheet.specs.declared.form.Offence.TheVariants.{BadWord, BadLength, BadRange}
-use Rattle.sheet.specs.declared.form.Walk.{Walk}
-use Rattle.sheet.specs.declared.form.Walk.TheVariants.{Behind, Stops}
+use Rattle.sheet.specs.Walk.{Walk}
+use Rattle.std.specs.Prelude.{Ok, Err}
 use Rattle.sheet.specs.declared.form.Line.{Line}
 use Rattle.sheet.specs.declared.form.Sort.TheVariants.{Stmt}
-use Rattle.sheet.specs.declared.form.Checked.TheVariants.{Accepted}
+use Rattle.sheet.specs.Check.{Accepted}
 use Rattle.sheet.specs.Check.{checked}
 use Rattle.sheet.specs.Form.{then, is_absent, take_word, absent_form, in_line, range_form, label_form, list_form, node_form, line_of, line_head, line_form, end_form, lines_form, sheet_form}
 use Rattle.walk.proofs.Steps.{Ends, repeat_ends, node_ends}
@@ -27,13 +27,13 @@ use Rattle.walk.proofs.Within.{walked, sheet_within}
 
 -- a walk that comes to its end has read at least n words
 pub record Reads (n p : ℕ) (w : Walk) : Type 0 where
-  pub past : (q : ℕ) → w ≡ Behind q → p + n ≤ q
+  pub past : (q : ℕ) → w ≡ Ok q → p + n ≤ q
 
 reads_then : (a b p : ℕ) (w : Walk) (f : ℕ → Walk) → Reads a p w → ((q : ℕ) → Reads b q (f q)) → Reads (a + b) p (then w f)
 reads_then a b p w f x y = record { past = λ q e. let h = then_first (then w f) w f q refl e in omega (arith, x.past h.0 h.1, (y h.0).past q h.2) }
 
 -- a test that goes on from where it stands, or stops
-reads_test : (q : ℕ) (b : Bool) (o : Offence) → Reads 0 q (pick b (Behind q) (Stops o))
+reads_test : (q : ℕ) (b : Bool) (o : Offence) → Reads 0 q (pick b (Ok q) (Err o))
 reads_test q b o = record { past = λ r e. omega (arith, (pick_behind b q r o e).1) }
 
 reads_choose : (n p : ℕ) (b : Bool) (f g : ℕ → Walk) → Reads n p (f p) → Reads n p (g p) → Reads n p (choose b f g p)
@@ -44,7 +44,7 @@ reads_less : (n m p : ℕ) (w : Walk) → n ≤ m → Reads m p w → Reads n p 
 reads_less n m p w h x = record { past = λ q e. omega (arith, x.past q e) }
 
 from_ends : (s : List ℕ) (p : ℕ) (w : Walk) → Ends s p w → Reads 0 p w
-from_ends s p w h = record { past = λ q e. let g : Ends s p (Behind q) = rw e at h in omega (arith, g.steps.later) }
+from_ends s p w h = record { past = λ q e. let g : Ends s p (Ok q) = rw e at h in omega (arith, g.steps.later) }
 
 module _ (s : List ℕ) where
   pub word_reads : (k n p : ℕ) → 0 < k → Reads 1 p (take_word s k n p)
@@ -79,23 +79,23 @@ module _ (s t : List ℕ) where
   unfolding line_form
   line_reads base p = reads_then 1 2 p _ _ (head_reads base p) (λ q. reads_then 1 1 q _ _ (label_reads s (line_of s t base p) q) (λ r. list_reads (line_of s t base p) r))
 
-  pub end_here_lem : (base p q : ℕ) → end_form s t base p ≡ Behind q → p ≡ q
+  pub end_here_lem : (base p q : ℕ) → end_form s t base p ≡ Ok q → p ≡ q
   unfolding end_form
   end_here_lem base p q e = go (ltb p (length s)) (ltb base (length t)) e
     where
-      go : (b d : Bool) → pick b (Stops (BadWord p)) (pick d (Stops (BadLength (length s))) (Behind p)) ≡ Behind q → p ≡ q
+      go : (b d : Bool) → pick b (Err (BadWord p)) (pick d (Err (BadLength (length s))) (Ok p)) ≡ Ok q → p ≡ q
       go true d f = let z : ◌≡◌ {A = ℕ} 0 1 = cc in absurd (omega arith)
       go false true f = let z : ◌≡◌ {A = ℕ} 0 1 = cc in absurd (omega arith)
       go false false f = cc
 
-  lines_read : (n base p q : ℕ) → lines_form s t n base p ≡ Behind q → p + 3 * n ≤ q
+  lines_read : (n base p q : ℕ) → lines_form s t n base p ≡ Ok q → p + 3 * n ≤ q
   unfolding lines_form
   lines_read zero base p q e = omega (arith, end_here_lem base p q e)
   lines_read (suc n) base p q e =
       let a = then_first (lines_form s t (suc n) base p) (line_form s t base p) (λ r. lines_form s t n (base + payload_at s p) r) q refl e in
       omega (arith, (line_reads base p).past a.0 a.1, lines_read n (base + payload_at s p) a.0 q a.2)
 
-  sheet_reads : (q : ℕ) → sheet_form s t ≡ Behind q → 3 * payload_at s 0 < length s
+  sheet_reads : (q : ℕ) → sheet_form s t ≡ Ok q → 3 * payload_at s 0 < length s
   unfolding sheet_form
   sheet_reads q e =
       let a = then_first (sheet_form s t) (take_word s 15 16777216 0) (λ p. lines_form s t (payload_at s 0) 0 p) q refl e in

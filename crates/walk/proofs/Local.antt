@@ -18,10 +18,10 @@ use Rattle.sheet.specs.declared.form.Times.TheVariants.{Once, Optional, List as 
 use Rattle.sheet.specs.declared.form.Field.{Field}
 use Rattle.sheet.specs.declared.form.Offence.{Offence}
 use Rattle.sheet.specs.declared.form.Offence.TheVariants.{BadWord, TooDeep, BadLength, BadRange, Fseek}
-use Rattle.sheet.specs.declared.form.Walk.{Walk}
-use Rattle.sheet.specs.declared.form.Walk.TheVariants.{Behind, Stops}
+use Rattle.sheet.specs.Walk.{Walk}
+use Rattle.std.specs.Prelude.{Ok, Err}
 use Rattle.sheet.specs.declared.form.Line.{Line}
-use Rattle.sheet.specs.Table.{expr_table, stmt_table, expr_fields, stmt_fields, node_kind, may_stand, own_range, fields_of, is_fseek}
+use Rattle.sheet.specs.Table.{kind_number, expr_table, stmt_table, expr_fields, stmt_fields, node_kind, may_stand, own_range, fields_of, is_fseek}
 use Rattle.sheet.specs.Check.{offence_place}
 use Rattle.sheet.specs.Form.{then, is_absent, has_unit, is_name_range, take_word, absent_form, non_empty_form, high_form, low_form, number_form, head_form, fseek_form, in_line, range_form, text_form, datum_form, label_form, name_form, source_rest, element_rest, item_form, pair_form, repeat_form, list_form, times_form, field_form, fields_form, body_form, node_form, line_of, line_head, line_form, end_form, lines_form, sheet_form, high_fits, low_fits, lacks_unit}
 use Rattle.walk.proofs.Steps.{Ends, end_of, to_next, high_ends, low_ends, range_ends, word_ends, item_ends, pair_ends, repeat_ends, list_ends, fields_ends, body_ends_lem, node_ends, label_ends}
@@ -30,8 +30,8 @@ use Rattle.walk.proofs.Within.{line_ends, lines_ends}
 
 -- how many words decide a walk: those before its end, or those up to the offending one and one word more
 abbrev pub reads : Walk → ℕ
-reads (Behind p) = p
-reads (Stops o) = offence_place o + 2
+reads (Ok p) = p
+reads (Err o) = offence_place o + 2
 
 -- two sheets with the same words below n, which end at the same place if one of them ends at n or before
 pub record Alike (s s' : List ℕ) (n : ℕ) : Type 0 where
@@ -43,8 +43,8 @@ pub record Agrees (n : ℕ) (w w' : Walk) : Type 0 where
   pub same : reads w ≤ n → w ≡ w'
 
 end_reads : (w : Walk) → end_of w ≤ reads w
-end_reads (Behind p) = omega arith
-end_reads (Stops o) = omega arith
+end_reads (Ok p) = omega arith
+end_reads (Err o) = omega arith
 
 next_near : (s : List ℕ) (p : ℕ) → next s p ≤ p + 1
 unfolding next
@@ -62,9 +62,9 @@ choose_reads : (m : ℕ) (b : Bool) (f g : ℕ → Walk) (p : ℕ) → m ≤ rea
 choose_reads m true f g p a b = a
 choose_reads m false f g p a b = b
 
-then_reads : (m : ℕ) (w : Walk) (f : ℕ → Walk) → m ≤ reads w → ((q : ℕ) → w ≡ Behind q → q ≤ reads (f q)) → m ≤ reads (then w f)
-then_reads m (Behind q) f a b = let h : q ≤ reads (f q) = b q refl in omega (arith, a, h)
-then_reads m (Stops o) f a b = a
+then_reads : (m : ℕ) (w : Walk) (f : ℕ → Walk) → m ≤ reads w → ((q : ℕ) → w ≡ Ok q → q ≤ reads (f q)) → m ≤ reads (then w f)
+then_reads m (Ok q) f a b = let h : q ≤ reads (f q) = b q refl in omega (arith, a, h)
+then_reads m (Err o) f a b = a
 
 same_agrees : (n : ℕ) (w : Walk) → Agrees n w w
 same_agrees n w = record { same = λ h. refl }
@@ -73,10 +73,10 @@ choose_agrees : (n : ℕ) (b : Bool) (f g f' g' : ℕ → Walk) (p : ℕ) → Ag
 choose_agrees n true f g f' g' p a b = a
 choose_agrees n false f g f' g' p a b = b
 
-then_agrees : (n : ℕ) (w w' : Walk) (f f' : ℕ → Walk) → Agrees n w w' → ((q : ℕ) → w ≡ Behind q → q ≤ reads (f q))
-    → ((q : ℕ) → w ≡ Behind q → Agrees n (f q) (f' q)) → Agrees n (then w f) (then w' f')
-then_agrees n (Behind q) w' f f' a m b = record { same = λ h. let k : q ≤ reads (f q) = m q refl in let e : Behind q ≡ w' = a.same (omega (arith, h, k)) in ((b q refl).same h) ∙ ap (λ (v : Walk). then v f') e }
-then_agrees n (Stops o) w' f f' a m b = record { same = λ h. ap (λ (v : Walk). then v f') (a.same h) }
+then_agrees : (n : ℕ) (w w' : Walk) (f f' : ℕ → Walk) → Agrees n w w' → ((q : ℕ) → w ≡ Ok q → q ≤ reads (f q))
+    → ((q : ℕ) → w ≡ Ok q → Agrees n (f q) (f' q)) → Agrees n (then w f) (then w' f')
+then_agrees n (Ok q) w' f f' a m b = record { same = λ h. let k : q ≤ reads (f q) = m q refl in let e : Ok q ≡ w' = a.same (omega (arith, h, k)) in ((b q refl).same h) ∙ ap (λ (v : Walk). then v f') e }
+then_agrees n (Err o) w' f f' a m b = record { same = λ h. ap (λ (v : Walk). then v f') (a.same h) }
 
 -- an item that reads a word: all but nothing
 abbrev solid : Item → Bool
@@ -147,43 +147,43 @@ module _ (s s' : List ℕ) (n : ℕ) (al : Alike s s' n) where
 
   word_reads : (k m p : ℕ) → next s p ≤ reads (take_word s k m p)
   unfolding take_word
-  word_reads k m p = let h : next s p ≤ p + 1 = next_near s p in pick_reads (next s p) (both (eqb (kind_at s p) k) (ltb (payload_at s p) m)) (Behind (next s p)) (Stops (BadWord p)) (omega arith) (omega arith)
+  word_reads k m p = let h : next s p ≤ p + 1 = next_near s p in pick_reads (next s p) (both (eqb (kind_at s p) k) (ltb (payload_at s p) m)) (Ok (next s p)) (Err (BadWord p)) (omega arith) (omega arith)
 
   word_agrees : (k m p : ℕ) → Agrees n (take_word s k m p) (take_word s' k m p)
   unfolding take_word
   word_agrees k m p = record {
     same = λ h. let i : next s p ≤ n = omega (arith, h, word_reads k m p) in
-        ap (λ (x : ℕ). pick (both (eqb (kind x) k) (ltb (payload x) m)) (Behind (next s p)) (Stops (BadWord p))) (same_word p i)
-        ∙ ap (λ (q : ℕ). pick (both (eqb (kind_at s' p) k) (ltb (payload_at s' p) m)) (Behind q) (Stops (BadWord p))) (same_next p i);
+        ap (λ (x : ℕ). pick (both (eqb (kind x) k) (ltb (payload x) m)) (Ok (next s p)) (Err (BadWord p))) (same_word p i)
+        ∙ ap (λ (q : ℕ). pick (both (eqb (kind_at s' p) k) (ltb (payload_at s' p) m)) (Ok q) (Err (BadWord p))) (same_next p i);
   }
 
   head_reads : (c : Sort) (p : ℕ) → next s p ≤ reads (head_form s c p)
-  head_reads c p = let h : next s p ≤ p + 1 = next_near s p in pick_reads (next s p) (both (eqb (kind_at s p) (node_kind c)) (may_stand c (payload_at s p))) (Behind (next s p)) (Stops (BadWord p)) (omega arith) (omega arith)
+  head_reads c p = let h : next s p ≤ p + 1 = next_near s p in pick_reads (next s p) (both (eqb (kind_at s p) (node_kind c)) (may_stand c (payload_at s p))) (Ok (next s p)) (Err (BadWord p)) (omega arith) (omega arith)
 
   head_agrees : (c : Sort) (p : ℕ) → Agrees n (head_form s c p) (head_form s' c p)
   head_agrees c p = record {
     same = λ h. let i : next s p ≤ n = omega (arith, h, head_reads c p) in
-        ap (λ (x : ℕ). pick (both (eqb (kind x) (node_kind c)) (may_stand c (payload x))) (Behind (next s p)) (Stops (BadWord p))) (same_word p i)
-        ∙ ap (λ (q : ℕ). pick (both (eqb (kind_at s' p) (node_kind c)) (may_stand c (payload_at s' p))) (Behind q) (Stops (BadWord p))) (same_next p i);
+        ap (λ (x : ℕ). pick (both (eqb (kind x) (node_kind c)) (may_stand c (payload x))) (Ok (next s p)) (Err (BadWord p))) (same_word p i)
+        ∙ ap (λ (q : ℕ). pick (both (eqb (kind_at s' p) (node_kind c)) (may_stand c (payload_at s' p))) (Ok q) (Err (BadWord p))) (same_next p i);
   }
 
   -- the tests of one word
-  good_first : (p q : ℕ) (b : Bool) (o : Offence) → offence_place o ≡ p → q ≡ next s p → q ≤ reads (pick b (Behind q) (Stops o))
-  good_first p q b o e h = let k : next s p ≤ p + 1 = next_near s p in pick_reads q b (Behind q) (Stops o) (omega arith) (omega (arith, e, h, k))
+  good_first : (p q : ℕ) (b : Bool) (o : Offence) → offence_place o ≡ p → q ≡ next s p → q ≤ reads (pick b (Ok q) (Err o))
+  good_first p q b o e h = let k : next s p ≤ p + 1 = next_near s p in pick_reads q b (Ok q) (Err o) (omega arith) (omega (arith, e, h, k))
 
-  bad_first : (p q : ℕ) (b : Bool) (o : Offence) → offence_place o ≡ p → q ≡ next s p → q ≤ reads (pick b (Stops o) (Behind q))
-  bad_first p q b o e h = let k : next s p ≤ p + 1 = next_near s p in pick_reads q b (Stops o) (Behind q) (omega (arith, e, h, k)) (omega arith)
+  bad_first : (p q : ℕ) (b : Bool) (o : Offence) → offence_place o ≡ p → q ≡ next s p → q ≤ reads (pick b (Err o) (Ok q))
+  bad_first p q b o e h = let k : next s p ≤ p + 1 = next_near s p in pick_reads q b (Err o) (Ok q) (omega (arith, e, h, k)) (omega arith)
 
   tested : (p : ℕ) (w w' : Walk) (T : ℕ → Bool) (o : Offence) → offence_place o ≡ p → Lands w (next s p) → Agrees n w w'
-      → Agrees n (then w (λ q. pick (T (get_or s p 0)) (Behind q) (Stops o))) (then w' (λ q. pick (T (get_or s' p 0)) (Behind q) (Stops o)))
-  tested p w w' T o e l a = branch p w w' (λ x q. pick (T x) (Behind q) (Stops o)) (λ x q. pick (T x) (Behind q) (Stops o)) l a (λ x q h. good_first p q (T x) o e h) (λ x q h. same_agrees n _)
+      → Agrees n (then w (λ q. pick (T (get_or s p 0)) (Ok q) (Err o))) (then w' (λ q. pick (T (get_or s' p 0)) (Ok q) (Err o)))
+  tested p w w' T o e l a = branch p w w' (λ x q. pick (T x) (Ok q) (Err o)) (λ x q. pick (T x) (Ok q) (Err o)) l a (λ x q h. good_first p q (T x) o e h) (λ x q h. same_agrees n _)
 
-  tested_reads : (p : ℕ) (w : Walk) (b : Bool) (o : Offence) → offence_place o ≡ p → Lands w (next s p) → next s p ≤ reads w → next s p ≤ reads (then w (λ q. pick b (Behind q) (Stops o)))
-  tested_reads p w b o e l m = then_reads (next s p) w (λ q. pick b (Behind q) (Stops o)) m (λ q h. good_first p q b o e (l.ends q h))
+  tested_reads : (p : ℕ) (w : Walk) (b : Bool) (o : Offence) → offence_place o ≡ p → Lands w (next s p) → next s p ≤ reads w → next s p ≤ reads (then w (λ q. pick b (Ok q) (Err o)))
+  tested_reads p w b o e l m = then_reads (next s p) w (λ q. pick b (Ok q) (Err o)) m (λ q h. good_first p q b o e (l.ends q h))
 
   non_empty_agrees : (p : ℕ) → Agrees n (non_empty_form s p) (non_empty_form s' p)
   unfolding non_empty_form
-  non_empty_agrees p = branch p (take_word s 4 16777216 p) (take_word s' 4 16777216 p) (λ x q. pick (eqb (payload x) 0) (Stops (BadWord p)) (Behind q)) (λ x q. pick (eqb (payload x) 0) (Stops (BadWord p)) (Behind q))
+  non_empty_agrees p = branch p (take_word s 4 16777216 p) (take_word s' 4 16777216 p) (λ x q. pick (eqb (payload x) 0) (Err (BadWord p)) (Ok q)) (λ x q. pick (eqb (payload x) 0) (Err (BadWord p)) (Ok q))
       (word_lands s 4 16777216 p) (word_agrees 4 16777216 p) (λ x q h. bad_first p q (eqb (payload x) 0) (BadWord p) refl h) (λ x q h. same_agrees n _)
 
   high_agrees : (e p : ℕ) → Agrees n (high_form s e p) (high_form s' e p)
@@ -232,37 +232,37 @@ module _ (s s' : List ℕ) (n : ℕ) (al : Alike s s' n) where
     text_reads p = tested_reads p (range_form s line p) (has_unit (range_at s p)) (BadRange p) refl (range_lands s line p) (range_reads p)
 
     -- the word behind a datum's range: the one word more
-    datum_rest_reads : (p q x : ℕ) → q ≡ next s p → q ≤ reads (then (take_word s 5 2 q) (λ r. pick (lacks_unit (payload_at s q) (range_of x)) (Stops (BadRange p)) (Behind r)))
+    datum_rest_reads : (p q x : ℕ) → q ≡ next s p → q ≤ reads (then (take_word s 5 2 q) (λ r. pick (lacks_unit (payload_at s q) (range_of x)) (Err (BadRange p)) (Ok r)))
     datum_rest_reads p q x h =
         let a : q ≤ next s q = (to_next s q).later in
         let b : next s q ≤ q + 1 = next_near s q in
         let d : next s p ≤ p + 1 = next_near s p in
         let m : next s q ≤ reads (take_word s 5 2 q) = word_reads 5 2 q in
-        then_reads q (take_word s 5 2 q) (λ r. pick (lacks_unit (payload_at s q) (range_of x)) (Stops (BadRange p)) (Behind r)) (omega (arith, a, m))
-        (λ r e. let k : r ≡ next s q = (word_lands s 5 2 q).ends r e in pick_reads r (lacks_unit (payload_at s q) (range_of x)) (Stops (BadRange p)) (Behind r) (omega (arith, k, b, h, d)) (omega arith))
+        then_reads q (take_word s 5 2 q) (λ r. pick (lacks_unit (payload_at s q) (range_of x)) (Err (BadRange p)) (Ok r)) (omega (arith, a, m))
+        (λ r e. let k : r ≡ next s q = (word_lands s 5 2 q).ends r e in pick_reads r (lacks_unit (payload_at s q) (range_of x)) (Err (BadRange p)) (Ok r) (omega (arith, k, b, h, d)) (omega arith))
 
     datum_rest_agrees : (p q x : ℕ) → q ≡ next s p
-        → Agrees n (then (take_word s 5 2 q) (λ r. pick (lacks_unit (payload_at s q) (range_of x)) (Stops (BadRange p)) (Behind r)))
-        (then (take_word s' 5 2 q) (λ r. pick (lacks_unit (payload_at s' q) (range_of x)) (Stops (BadRange p)) (Behind r)))
+        → Agrees n (then (take_word s 5 2 q) (λ r. pick (lacks_unit (payload_at s q) (range_of x)) (Err (BadRange p)) (Ok r)))
+        (then (take_word s' 5 2 q) (λ r. pick (lacks_unit (payload_at s' q) (range_of x)) (Err (BadRange p)) (Ok r)))
     datum_rest_agrees p q x h =
         let b : next s q ≤ q + 1 = next_near s q in
         let d : next s p ≤ p + 1 = next_near s p in
-        branch q (take_word s 5 2 q) (take_word s' 5 2 q) (λ y r. pick (lacks_unit (payload y) (range_of x)) (Stops (BadRange p)) (Behind r)) (λ y r. pick (lacks_unit (payload y) (range_of x)) (Stops (BadRange p)) (Behind r))
+        branch q (take_word s 5 2 q) (take_word s' 5 2 q) (λ y r. pick (lacks_unit (payload y) (range_of x)) (Err (BadRange p)) (Ok r)) (λ y r. pick (lacks_unit (payload y) (range_of x)) (Err (BadRange p)) (Ok r))
         (word_lands s 5 2 q) (word_agrees 5 2 q)
-        (λ y r k. pick_reads r (lacks_unit (payload y) (range_of x)) (Stops (BadRange p)) (Behind r) (omega (arith, k, b, h, d)) (omega arith)) (λ y r k. same_agrees n _)
+        (λ y r k. pick_reads r (lacks_unit (payload y) (range_of x)) (Err (BadRange p)) (Ok r) (omega (arith, k, b, h, d)) (omega arith)) (λ y r k. same_agrees n _)
 
     datum_agrees : (p : ℕ) → Agrees n (datum_form s line p) (datum_form s' line p)
     unfolding datum_form
     datum_agrees p =
         branch p (range_form s line p) (range_form s' line p)
-        (λ x q. then (take_word s 5 2 q) (λ r. pick (lacks_unit (payload_at s q) (range_of x)) (Stops (BadRange p)) (Behind r)))
-        (λ x q. then (take_word s' 5 2 q) (λ r. pick (lacks_unit (payload_at s' q) (range_of x)) (Stops (BadRange p)) (Behind r)))
+        (λ x q. then (take_word s 5 2 q) (λ r. pick (lacks_unit (payload_at s q) (range_of x)) (Err (BadRange p)) (Ok r)))
+        (λ x q. then (take_word s' 5 2 q) (λ r. pick (lacks_unit (payload_at s' q) (range_of x)) (Err (BadRange p)) (Ok r)))
         (range_lands s line p) (range_agrees p) (λ x q h. datum_rest_reads p q x h) (λ x q h. datum_rest_agrees p q x h)
 
     datum_reads : (p : ℕ) → next s p ≤ reads (datum_form s line p)
     unfolding datum_form
     datum_reads p =
-        then_reads (next s p) (range_form s line p) (λ q. then (take_word s 5 2 q) (λ r. pick (lacks_unit (payload_at s q) (range_at s p)) (Stops (BadRange p)) (Behind r)))
+        then_reads (next s p) (range_form s line p) (λ q. then (take_word s 5 2 q) (λ r. pick (lacks_unit (payload_at s q) (range_at s p)) (Err (BadRange p)) (Ok r)))
         (range_reads p) (λ q e. datum_rest_reads p q (get_or s p 0) ((range_lands s line p).ends q e))
 
     -- absent, or something that reads the word there
@@ -316,7 +316,7 @@ module _ (s s' : List ℕ) (n : ℕ) (al : Alike s s' n) where
         item_agrees : (i : Item) (p : ℕ) → Agrees n (item_form s t line child i p) (item_form s' t line child' i p)
         unfolding item_form
         item_agrees Nothing p = same_agrees n _
-        item_agrees (Word k m) p = word_agrees k m p
+        item_agrees (Word k m) p = word_agrees (kind_number k) m p
         item_agrees range p = range_agrees p
         item_agrees name p = name_agrees p
         item_agrees optionalName p = optional_agrees p (name_form s t line) (name_form s' t line) (name_agrees p) (name_reads p)
@@ -335,7 +335,7 @@ module _ (s s' : List ℕ) (n : ℕ) (al : Alike s s' n) where
         item_reads : (i : Item) (p : ℕ) → solid i ≡ true → next s p ≤ reads (item_form s t line child i p)
         unfolding item_form
         item_reads Nothing p e = let z : ◌≡◌ {A = ℕ} 0 1 = cc in absurd (omega arith)
-        item_reads (Word k m) p e = word_reads k m p
+        item_reads (Word k m) p e = word_reads (kind_number k) m p
         item_reads range p e = range_reads p
         item_reads name p e = name_reads p
         item_reads optionalName p e = optional_reads p (name_form s t line) (name_reads p)
@@ -408,14 +408,14 @@ module _ (s s' : List ℕ) (n : ℕ) (al : Alike s s' n) where
             (item_agrees child child' below first alike (own_range c k) p) (λ q h. forward q _ (fields_ends s t line child below (fields_of c k) q)) (λ q h. fields_agrees (fields_of c k) q (node_solid c k))
 
       node_rest_reads : (left : ℕ) (c : Sort) (p q x : ℕ) → q ≡ next s p
-          → q ≤ reads (then (pick (is_fseek c (payload x)) (Stops (Fseek p)) (Behind q)) (λ r. body_form s t line (node_form s t line left) c (payload x) r))
+          → q ≤ reads (then (pick (is_fseek c (payload x)) (Err (Fseek p)) (Ok q)) (λ r. body_form s t line (node_form s t line left) c (payload x) r))
       node_rest_reads left c p q x h =
-          then_reads q (pick (is_fseek c (payload x)) (Stops (Fseek p)) (Behind q)) (λ r. body_form s t line (node_form s t line left) c (payload x) r)
+          then_reads q (pick (is_fseek c (payload x)) (Err (Fseek p)) (Ok q)) (λ r. body_form s t line (node_form s t line left) c (payload x) r)
           (bad_first p q (is_fseek c (payload x)) (Fseek p) refl h) (λ r e. forward r _ (body_ends_lem s t line (node_form s t line left) (node_ends s t line left) c (payload x) r))
 
       node_reads : (left : ℕ) (c : Sort) (p : ℕ) → next s p ≤ reads (node_form s t line left c p)
       unfolding node_form
-      node_reads zero c p = then_reads (next s p) (head_form s c p) (λ q. Stops (TooDeep p)) (head_reads c p) (λ q e. let h : q ≡ next s p = (head_lands s c p).ends q e in let k : next s p ≤ p + 1 = next_near s p in omega (arith, h, k))
+      node_reads zero c p = then_reads (next s p) (head_form s c p) (λ q. Err (TooDeep p)) (head_reads c p) (λ q e. let h : q ≡ next s p = (head_lands s c p).ends q e in let k : next s p ≤ p + 1 = next_near s p in omega (arith, h, k))
       node_reads (suc left) c p =
           then_reads (next s p) (head_form s c p) (λ q. then (fseek_form s c p q) (λ r. body_form s t line (node_form s t line left) c (payload_at s p) r)) (head_reads c p)
           (λ q e. node_rest_reads left c p q (get_or s p 0) ((head_lands s c p).ends q e))
@@ -424,14 +424,14 @@ module _ (s s' : List ℕ) (n : ℕ) (al : Alike s s' n) where
       pub node_agrees : (left : ℕ) (c : Sort) (p : ℕ) → Agrees n (node_form s t line left c p) (node_form s' t line left c p)
       unfolding node_form
       node_agrees zero c p =
-          then_agrees n (head_form s c p) (head_form s' c p) (λ q. Stops (TooDeep p)) (λ q. Stops (TooDeep p)) (head_agrees c p)
+          then_agrees n (head_form s c p) (head_form s' c p) (λ q. Err (TooDeep p)) (λ q. Err (TooDeep p)) (head_agrees c p)
           (λ q e. let h : q ≡ next s p = (head_lands s c p).ends q e in let k : next s p ≤ p + 1 = next_near s p in omega (arith, h, k)) (λ q e. same_agrees n _)
       node_agrees (suc left) c p =
           branch p (head_form s c p) (head_form s' c p)
-          (λ x q. then (pick (is_fseek c (payload x)) (Stops (Fseek p)) (Behind q)) (λ r. body_form s t line (node_form s t line left) c (payload x) r))
-          (λ x q. then (pick (is_fseek c (payload x)) (Stops (Fseek p)) (Behind q)) (λ r. body_form s' t line (node_form s' t line left) c (payload x) r))
+          (λ x q. then (pick (is_fseek c (payload x)) (Err (Fseek p)) (Ok q)) (λ r. body_form s t line (node_form s t line left) c (payload x) r))
+          (λ x q. then (pick (is_fseek c (payload x)) (Err (Fseek p)) (Ok q)) (λ r. body_form s' t line (node_form s' t line left) c (payload x) r))
           (head_lands s c p) (head_agrees c p) (λ x q h. node_rest_reads left c p q x h)
-          (λ x q h. then_agrees n (pick (is_fseek c (payload x)) (Stops (Fseek p)) (Behind q)) (pick (is_fseek c (payload x)) (Stops (Fseek p)) (Behind q))
+          (λ x q h. then_agrees n (pick (is_fseek c (payload x)) (Err (Fseek p)) (Ok q)) (pick (is_fseek c (payload x)) (Err (Fseek p)) (Ok q))
           (λ r. body_form s t line (node_form s t line left) c (payload x) r) (λ r. body_form s' t line (node_form s' t line left) c (payload x) r) (same_agrees n _)
           (λ r e. forward r _ (body_ends_lem s t line (node_form s t line left) (node_ends s t line left) c (payload x) r))
           (λ r e. body_agrees (node_form s t line left) (node_form s' t line left) (node_ends s t line left) (node_reads left) (node_agrees left) c (payload x) r))
@@ -494,16 +494,16 @@ module _ (s s' : List ℕ) (n : ℕ) (al : Alike s s' n) where
     unfolding end_form
     end_agrees base p i = record { same = λ h. go (ltb p (length s)) (ltb base (length t)) refl h }
       where
-        go : (b d : Bool) → ltb p (length s) ≡ b → reads (pick b (Stops (BadWord p)) (pick d (Stops (BadLength (length s))) (Behind p))) ≤ n
-            → pick b (Stops (BadWord p)) (pick d (Stops (BadLength (length s))) (Behind p)) ≡ pick (ltb p (length s')) (Stops (BadWord p)) (pick d (Stops (BadLength (length s'))) (Behind p))
+        go : (b d : Bool) → ltb p (length s) ≡ b → reads (pick b (Err (BadWord p)) (pick d (Err (BadLength (length s))) (Ok p))) ≤ n
+            → pick b (Err (BadWord p)) (pick d (Err (BadLength (length s))) (Ok p)) ≡ pick (ltb p (length s')) (Err (BadWord p)) (pick d (Err (BadLength (length s'))) (Ok p))
         go true d e h = let k : ltb p (length s') ≡ true = sym (al.inside p (omega (arith, h))) ∙ e in rw k
         go false true e h =
             let k : ltb p (length s') ≡ false = sym (al.inside p (omega (arith, h, i))) ∙ e in
             let l : length s ≡ length s' = same_length p (omega (arith, h, i)) (ltb-false p (length s) e) i in
-            rw k (ap (λ (m : ℕ). Stops (BadLength m)) l)
+            rw k (ap (λ (m : ℕ). Err (BadLength m)) l)
         go false false e h = let k : ltb p (length s') ≡ false = sym (al.inside p h) ∙ e in rw k
 
-    reads_behind : (w : Walk) (q m : ℕ) → w ≡ Behind q → m ≤ reads w → m ≤ q
+    reads_behind : (w : Walk) (q m : ℕ) → w ≡ Ok q → m ≤ reads w → m ≤ q
     reads_behind w q m e h = rw e at h
 
     lines_agrees : (m base p : ℕ) → p ≤ length s → Agrees n (lines_form s t m base p) (lines_form s' t m base p)
@@ -516,8 +516,8 @@ module _ (s s' : List ℕ) (n : ℕ) (al : Alike s s' n) where
         (let a : next s p ≤ q = reads_behind (line_form s t base p) q (next s p) e (line_reads base p) in
         let b : q ≤ reads (lines_form s t m (base + payload_at s p) q) = forward q _ (lines_ends s t m (base + payload_at s p) q (inside_of q e)) in omega (arith, a, b)))
       where
-        inside_of : (q : ℕ) → line_form s t base p ≡ Behind q → q ≤ length s
-        inside_of q e = let g : Ends s p (Behind q) = rw e at (line_ends s t base p) in g.steps.inside i
+        inside_of : (q : ℕ) → line_form s t base p ≡ Ok q → q ≤ length s
+        inside_of q e = let g : Ends s p (Ok q) = rw e at (line_ends s t base p) in g.steps.inside i
 
     -- THEOREM: a sheet that n words decide is the same as one that is alike up to there
     pub sheet_agrees : Agrees n (sheet_form s t) (sheet_form s' t)
@@ -536,16 +536,16 @@ alike s s' n e w = record { word = w; inside = λ i h. ap (λ (l : ℕ). ltb i l
 
 -- THEOREM: two sheets of one length, with the same words up to the offending one and one word more, offend alike
 pub node_local : (s s' t : List ℕ) (line : Line) (left : ℕ) (c : Sort) (p : ℕ) (o : Offence) → length s ≡ length s'
-    → ((i : ℕ) → i < offence_place o + 2 → get_or s i 0 ≡ get_or s' i 0) → node_form s t line left c p ≡ Stops o → node_form s' t line left c p ≡ Stops o
+    → ((i : ℕ) → i < offence_place o + 2 → get_or s i 0 ≡ get_or s' i 0) → node_form s t line left c p ≡ Err o → node_form s' t line left c p ≡ Err o
 node_local s s' t line left c p o e w h =
-    let a : Agrees (offence_place o + 2) (Stops o) (node_form s' t line left c p) = rw h at (node_agrees s s' (offence_place o + 2) (alike s s' (offence_place o + 2) e w) line t left c p) in
+    let a : Agrees (offence_place o + 2) (Err o) (node_form s' t line left c p) = rw h at (node_agrees s s' (offence_place o + 2) (alike s s' (offence_place o + 2) e w) line t left c p) in
     sym (a.same (omega arith))
 
 -- THEOREM: the same of whole sheets
 pub sheet_local : (s s' t : List ℕ) (o : Offence) → length s ≡ length s'
-    → ((i : ℕ) → i < offence_place o + 2 → get_or s i 0 ≡ get_or s' i 0) → sheet_form s t ≡ Stops o → sheet_form s' t ≡ Stops o
+    → ((i : ℕ) → i < offence_place o + 2 → get_or s i 0 ≡ get_or s' i 0) → sheet_form s t ≡ Err o → sheet_form s' t ≡ Err o
 sheet_local s s' t o e w h =
-    let a : Agrees (offence_place o + 2) (Stops o) (sheet_form s' t) = rw h at (sheet_agrees s s' (offence_place o + 2) (alike s s' (offence_place o + 2) e w) t) in
+    let a : Agrees (offence_place o + 2) (Err o) (sheet_form s' t) = rw h at (sheet_agrees s s' (offence_place o + 2) (alike s s' (offence_place o + 2) e w) t) in
     sym (a.same (omega arith))
 
 -- two sheets that go on behind n
@@ -554,7 +554,7 @@ alike_longer s s' n a b w = record { word = w; inside = λ i h. lt-ltb i (length
 
 -- THEOREM: what stands further behind the offending word does not matter, nor how much of it
 pub sheet_prefix : (s s' t : List ℕ) (o : Offence) → offence_place o + 2 < length s → offence_place o + 2 < length s'
-    → ((i : ℕ) → i < offence_place o + 2 → get_or s i 0 ≡ get_or s' i 0) → sheet_form s t ≡ Stops o → sheet_form s' t ≡ Stops o
+    → ((i : ℕ) → i < offence_place o + 2 → get_or s i 0 ≡ get_or s' i 0) → sheet_form s t ≡ Err o → sheet_form s' t ≡ Err o
 sheet_prefix s s' t o a b w h =
-    let g : Agrees (offence_place o + 2) (Stops o) (sheet_form s' t) = rw h at (sheet_agrees s s' (offence_place o + 2) (alike_longer s s' (offence_place o + 2) a b w) t) in
+    let g : Agrees (offence_place o + 2) (Err o) (sheet_form s' t) = rw h at (sheet_agrees s s' (offence_place o + 2) (alike_longer s s' (offence_place o + 2) a b w) t) in
     sym (g.same (omega arith))

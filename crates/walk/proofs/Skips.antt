@@ -1,11 +1,13 @@
 -- The place behind a part: at or behind its start, and within the sheet if that is. One law for each way out of the code.
-use mathlib.Core.Path.{◌≡◌, refl, sym, ◌∙◌}
+use mathlib.Core.Path.{◌≡◌, refl, sym, ap, ◌∙◌}
 use mathlib.Core.Bool.{Bool, true, false}
 use mathlib.Core.List.{List, [], ◌∷◌}
 use Prim.Native.Nat.{ℕ, zero, suc, ◌+◌, ◌-◌, ◌≤◌, ◌<◌}
 use native.Mathlib.Omega.{arith}
 use borrow.Author.Tests.{le-ltb}
-use lib.ListN.{length, get_or, get_or-eq_default}
+use lib.ListN.{length, get_or, get_or-eq_default, drop}
+use Rattle.std.proofs.Math.Seq.{drop-cons}
+use Rattle.std.proofs.lemmas.List.{drop_all}
 use Rattle.recorder.specs.Word.{choose, payload_at, next}
 use Rattle.sheet.specs.declared.form.Item.{Item}
 use Rattle.sheet.specs.declared.form.Item.TheVariants.{Nothing, Word, Range as range, Name as name, OptionalName as optionalName, Text as text, Node, Number as number, OptionalLabel as optionalLabel, Source as source, Element as element, Datum as datum}
@@ -15,10 +17,8 @@ use Rattle.sheet.specs.declared.form.Times.{Times}
 use Rattle.sheet.specs.declared.form.Times.TheVariants.{Once, Optional, List as Listed, NonEmpty, OptionalList}
 use Rattle.sheet.specs.declared.form.Field.{Field}
 use Rattle.sheet.specs.Table.{fields_of, expr_fields, stmt_fields}
-use Rattle.sheet.specs.Parts.{field_of, field_numbers, field_starts, fields_from, case_of}
 use Rattle.sheet.specs.Form.{is_absent}
 use Rattle.sheet.specs.Skip.{skip_source, skip_element, skip_item, skip_pair, skip_repeat, skip_list, skip_times, skip_field, skip_fields, skip_node}
-use Rattle.sheet.proofs.Rows.{row_of}
 use Rattle.walk.proofs.Steps.{Steps, here, further, to_next}
 
 module _ (s : List ℕ) where
@@ -120,9 +120,6 @@ module _ (s : List ℕ) where
     pub source_none : (n m p q : ℕ) → n ≡ m → n ≡ 0 → p ≡ q → p ≡ skip_source s child m q
     source_none n m p q e h k = let z : m ≡ 0 = sym e ∙ h in rw z k
 
-    pub source_range : (n m p q r : ℕ) → n ≡ m → n ≡ 1 → p ≡ q → r ≡ next s p → r ≡ skip_source s child m q
-    source_range n m p q r e h k f = let z : m ≡ 1 = sym e ∙ h in rw (z, ← k) f
-
     pub source_file : (n m p q r : ℕ) → n ≡ m → (n ≡ 0 → ⊥) → (n ≡ 1 → ⊥) → p ≡ q → r ≡ child Expr p → r ≡ skip_source s child m q
     source_file n zero p q r e h k x f = absurd (h e)
     source_file n (suc zero) p q r e h k x f = absurd (k e)
@@ -135,22 +132,17 @@ module _ (s : List ℕ) where
     element_range n zero p q r e h k f = absurd (h e)
     element_range n (suc m) p q r e h k f = rw k at f
 
-    pub pair_of : (a b : Item) (p q r : ℕ) → q ≡ skip_item s child a p → r ≡ skip_item s child b q → r ≡ skip_pair s child a b p
-    unfolding skip_pair
-    pair_of a b p q r e f = rw e at f
+    pub fields_step : (fs : List Field) (i p q : ℕ) (f : Field) (z : ℕ) → i < length fs → f ≡ get_or fs i f → q ≡ skip_field s child f p
+        → skip_fields s child (drop i fs) p ≡ z → skip_fields s child (drop (i + 1) fs) q ≡ z
+    unfolding skip_fields
+    fields_step fs i p q f z h a b k =
+        let e : i + 1 ≡ suc i = omega arith in
+        let m : drop i fs ≡ f ∷ drop (suc i) fs = drop-cons fs i f h ∙ ap (λ (g : Field). g ∷ drop (suc i) fs) (sym a) in
+        rw (e, b) (rw m at k)
 
-    fields_split : (i e p : ℕ) → i < e → skip_fields s child (fields_from i (e - i)) p
-        ≡ skip_fields s child (fields_from (i + 1) (e - (i + 1))) (skip_field s child (field_of (get_or field_numbers i 0)) p)
-    unfolding skip_fields fields_from
-    fields_split i e p h = let m : e - i ≡ suc (e - (i + 1)) = omega arith in rw m
-
-    pub fields_step : (i e p q : ℕ) (f : Field) (z : ℕ) → i < e → f ≡ field_of (get_or field_numbers i 0) → q ≡ skip_field s child f p
-        → skip_fields s child (fields_from i (e - i)) p ≡ z → skip_fields s child (fields_from (i + 1) (e - (i + 1))) q ≡ z
-    fields_step i e p q f z h a b k = rw (b, a) (sym (fields_split i e p h) ∙ k)
-
-    pub fields_end : (i e p z : ℕ) → e ≤ i → skip_fields s child (fields_from i (e - i)) p ≡ z → p ≡ z
-    unfolding skip_fields fields_from
-    fields_end i e p z h l = let m : e - i ≡ 0 = omega arith in rw m at l
+    pub fields_end : (fs : List Field) (i p z : ℕ) → length fs ≤ i → skip_fields s child (drop i fs) p ≡ z → p ≡ z
+    unfolding skip_fields
+    fields_end fs i p z h l = rw (drop_all i fs h) at l
 
   module _ (f : ℕ → ℕ) where
     pub repeat_step : (n p q z : ℕ) → 0 < n → q ≡ f p → skip_repeat s f n p ≡ z → skip_repeat s f (n - 1) q ≡ z
@@ -163,21 +155,6 @@ module _ (s : List ℕ) where
     repeat_end zero p n₀ p₀ at h k a b = rw (a, b) at k
     repeat_end (suc n) p n₀ p₀ at h k a b = absurd (omega arith)
 
-  pub choose_first : (b : Bool) (f g : ℕ → ℕ) (p w : ℕ) → b ≡ true → w ≡ f p → w ≡ choose b f g p
-  choose_first b f g p w e h = rw e h
-
-  pub choose_second : (b : Bool) (f g : ℕ → ℕ) (p w : ℕ) → b ≡ false → w ≡ g p → w ≡ choose b f g p
-  choose_second b f g p w e h = rw e h
-
   pub node_none : (left : ℕ) (c : Sort) (p : ℕ) → left ≡ 0 → p ≡ skip_node s left c p
   unfolding skip_node
   node_none left c p h = rw h
-
-  pub node_skip : (left : ℕ) (c : Sort) (p q r k m i e x : ℕ) → (left ≡ 0 → ⊥) → k ≡ payload_at s p → m ≡ case_of c k → i ≡ get_or field_starts m 0 → e ≡ get_or field_starts (m + 1) 0
-      → q ≡ next s p → r ≡ next s q → x ≡ skip_fields s (skip_node s (left - 1)) (fields_from i (e - i)) r → x ≡ skip_node s left c p
-  unfolding skip_node
-  node_skip zero c p q r k m i e x l a b y z u v f = absurd (l refl)
-  node_skip (suc left) c p q r k m i e x l a b y z u v f =
-      let d : suc left - 1 ≡ left = omega arith in
-      let g : fields_from i (e - i) ≡ fields_of c (payload_at s p) = rw (y, z, b, a) (row_of c (payload_at s p)) in
-      f ∙ rw (d, g, v, u)

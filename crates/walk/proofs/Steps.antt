@@ -16,17 +16,17 @@ use Rattle.sheet.specs.declared.form.Times.{Times}
 use Rattle.sheet.specs.declared.form.Times.TheVariants.{Once, Optional, List as Listed, NonEmpty, OptionalList}
 use Rattle.sheet.specs.declared.form.Field.{Field}
 use Rattle.sheet.specs.declared.form.Offence.TheVariants.{BadWord, BadRange}
-use Rattle.sheet.specs.declared.form.Walk.{Walk}
-use Rattle.sheet.specs.declared.form.Walk.TheVariants.{Behind, Stops}
+use Rattle.sheet.specs.Walk.{Walk}
+use Rattle.std.specs.Prelude.{Ok, Err}
 use Rattle.sheet.specs.declared.form.Line.{Line}
-use Rattle.sheet.specs.Table.{node_kind, may_stand, own_range, fields_of, is_fseek}
+use Rattle.sheet.specs.Table.{kind_number, node_kind, may_stand, own_range, fields_of, is_fseek}
 use Rattle.sheet.specs.Check.{offence_place}
 use Rattle.sheet.specs.Form.{then, is_absent, has_unit, is_name_range, take_word, absent_form, non_empty_form, high_form, low_form, number_form, head_form, in_line, range_form, text_form, datum_form, label_form, name_form, source_rest, element_rest, item_form, pair_form, repeat_form, list_form, times_form, field_form, fields_form, body_form, node_form, high_fits, low_fits, lacks_unit}
 
 -- where a walk ends or offends
 abbrev pub end_of : Walk → ℕ
-end_of (Behind p) = p
-end_of (Stops o) = offence_place o
+end_of (Ok p) = p
+end_of (Err o) = offence_place o
 
 -- q is at or behind p, and within the sheet if p is
 pub record Steps (s : List ℕ) (p q : ℕ) : Type 0 where
@@ -53,13 +53,13 @@ pub record Ends (s : List ℕ) (p : ℕ) (w : Walk) : Type 0 where
 
 -- A walk's parts, each from where it starts.
 module _ (s : List ℕ) where
-  pub behind_ends : (p q : ℕ) → Steps s p q → Ends s p (Behind q)
+  pub behind_ends : (p q : ℕ) → Steps s p q → Ends s p (Ok q)
   behind_ends p q h = record { steps = h }
 
-  bad_word : (p : ℕ) → Ends s p (Stops (BadWord p))
+  bad_word : (p : ℕ) → Ends s p (Err (BadWord p))
   bad_word p = record { steps = here s p }
 
-  bad_range : (p : ℕ) → Ends s p (Stops (BadRange p))
+  bad_range : (p : ℕ) → Ends s p (Err (BadRange p))
   bad_range p = record { steps = here s p }
 
   pub from_later : (p q : ℕ) (w : Walk) → Steps s p q → Ends s q w → Ends s p w
@@ -75,8 +75,8 @@ module _ (s : List ℕ) where
 
   -- what goes on may offend at a word already read
   pub back_ends : (p : ℕ) (w : Walk) (f : ℕ → Walk) → Ends s p w → ((q : ℕ) → Steps s p q → Ends s p (f q)) → Ends s p (then w f)
-  back_ends p (Behind q) f a b = b q a.steps
-  back_ends p (Stops o) f a b = a
+  back_ends p (Ok q) f a b = b q a.steps
+  back_ends p (Err o) f a b = a
 
   pub then_ends : (p : ℕ) (w : Walk) (f : ℕ → Walk) → Ends s p w → ((q : ℕ) → Ends s q (f q)) → Ends s p (then w f)
   then_ends p w f a b = back_ends p w f a (λ q h. from_later p q _ h (b q))
@@ -141,7 +141,7 @@ module _ (s : List ℕ) where
       pub item_ends : (i : Item) (p : ℕ) → Ends s p (item_form s t line child i p)
       unfolding item_form
       item_ends Nothing p = behind_ends p p (here s p)
-      item_ends (Word k n) p = word_ends k n p
+      item_ends (Word k n) p = word_ends (kind_number k) n p
       item_ends range p = range_ends line p
       item_ends name p = name_ends p
       item_ends optionalName p = absent_or p (name_form s t line) (name_ends p)

@@ -1,86 +1,115 @@
-// The shape of each case of StmtKind.
-ghost use Rattle.std.specs.Prelude.{◌≡◌, ◌<◌};
-ghost use Rattle.sheet.specs.Tree.{shape_of};
-ghost use Rattle.walk.specs.Shapes.{shape_by};
+// The shape of each case of StmtKind, and the fields of each node.
+ghost use Rattle.std.specs.Prelude.{◌≡◌};
+ghost use Rattle.sheet.specs.Table.{fields_of};
+ghost use Rattle.sheet.specs.Tree.{shape_table, shape_of};
 
-// By the place in StmtKind: the place of its shape in Shape. A number and not the shape itself, because the `match` over it in crate statements goes by groups
-// of eight, so that no `match` has many arms that lend three buffers.
-pub fn shape_of(k: u32) -> u8
-    ensures { (shape_by result ≡ shape_of k) × (result < 31) }
+use sheet::form::{Field, Shape, Sort};
+
+// By the place in StmtKind, eight on a line.
+const SHAPES: &[Shape] = &[
+    // Auto, Beep, Box, Call, Circle, Clear, Close, Cls
+    Shape::Rem,
+    Shape::Op0,
+    Shape::Draw,
+    Shape::Op1,
+    Shape::Draw,
+    Shape::Op0,
+    Shape::Op1,
+    Shape::Op0,
+    // Cont, Copy, Data, Def, Del, Dim, Draw, Edit
+    Shape::Op0,
+    Shape::Rem,
+    Shape::Data,
+    Shape::Def,
+    Shape::Rem,
+    Shape::Dim,
+    Shape::Draw,
+    Shape::Rem,
+    // Ellipse, End, Field, Files, Flash, For, Get, GoSub
+    Shape::Draw,
+    Shape::Op0,
+    Shape::Field,
+    Shape::Rem,
+    Shape::Op0,
+    Shape::For,
+    Shape::Op2,
+    Shape::GoSub,
+    // GoTo, Graph, If, InKey, Input, Inverse, Kill, Let
+    Shape::GoTo,
+    Shape::Op0,
+    Shape::If,
+    Shape::Op0,
+    Shape::Input,
+    Shape::Op0,
+    Shape::Rem,
+    Shape::Let,
+    // Line, List, Load, Locate, LSet, New, Next, Normal
+    Shape::Draw,
+    Shape::Rem,
+    Shape::Load,
+    Shape::Locate,
+    Shape::Set,
+    Shape::Rem,
+    Shape::Next,
+    Shape::Op0,
+    // NoTrace, On, Open, Paint, Play, Poke, Pop, Print
+    Shape::Op0,
+    Shape::On,
+    Shape::Open,
+    Shape::Draw,
+    Shape::Op1,
+    Shape::Op2,
+    Shape::Op0,
+    Shape::Print,
+    // Put, Read, Rem, Rename, Restore, Return, RSet, Run
+    Shape::Op2,
+    Shape::Read,
+    Shape::Rem,
+    Shape::Rem,
+    Shape::Restore,
+    Shape::Op0,
+    Shape::Set,
+    Shape::Run,
+    // Save, Stop, Swap, System, Text, Trace, Wend, While
+    Shape::Rem,
+    Shape::Rem,
+    Shape::Swap,
+    Shape::System,
+    Shape::Op0,
+    Shape::Op0,
+    Shape::Op0,
+    Shape::While,
+    // Write, Sleep, Fputc, Fread, Fwrite, Fseek, DebugPrint, NoOp
+    Shape::Write,
+    Shape::Op1,
+    Shape::Op2,
+    Shape::Op3,
+    Shape::Op3,
+    Shape::Op2,
+    Shape::Op1,
+    Shape::NoOp,
+];
+
+fn shapes() -> &'static [Shape]
+    ensures { result.now ≡ shape_table }
 {
-    match k {
-        0 => 0,
-        1 => 2,
-        2 => 7,
-        3 => 4,
-        4 => 7,
-        5 => 2,
-        6 => 4,
-        7 => 2,
-        8 => 2,
-        9 => 0,
-        10 => 9,
-        11 => 10,
-        12 => 0,
-        13 => 11,
-        14 => 7,
-        15 => 0,
-        16 => 7,
-        17 => 2,
-        18 => 12,
-        19 => 0,
-        20 => 2,
-        21 => 13,
-        22 => 5,
-        23 => 14,
-        24 => 15,
-        25 => 2,
-        26 => 16,
-        27 => 2,
-        28 => 17,
-        29 => 2,
-        30 => 0,
-        31 => 18,
-        32 => 7,
-        33 => 0,
-        34 => 19,
-        35 => 20,
-        36 => 8,
-        37 => 0,
-        38 => 21,
-        39 => 2,
-        40 => 2,
-        41 => 22,
-        42 => 23,
-        43 => 7,
-        44 => 4,
-        45 => 5,
-        46 => 2,
-        47 => 24,
-        48 => 5,
-        49 => 25,
-        50 => 0,
-        51 => 0,
-        52 => 26,
-        53 => 2,
-        54 => 8,
-        55 => 3,
-        56 => 0,
-        57 => 0,
-        58 => 27,
-        59 => 28,
-        60 => 2,
-        61 => 2,
-        62 => 2,
-        63 => 29,
-        64 => 30,
-        65 => 4,
-        66 => 5,
-        67 => 6,
-        68 => 6,
-        69 => 5,
-        70 => 4,
-        71 => 1,
-        _ => 1,
+    SHAPES
+}
+
+#[tactic(auto, unfolding(sheet::specs::Tree::shape_of))]
+pub fn shape_of(k: u32) -> Shape
+    ensures { result ≡ shape_of k }
+{
+    shapes().get(k as usize).copied().unwrap_or(Shape::NoOp)
+}
+
+// What a node has behind its own range.
+#[tactic(auto, using(sheet::proofs::Shapes::fields_rule))]
+pub fn fields_of(c: Sort, k: u32) -> &'static [Field]
+    ensures { result.now ≡ fields_of c k }
+{
+    match c {
+        Sort::Stmt => sheet::form::shape_fields(shape_of(k)),
+        Sort::Expr | Sort::Place | Sort::InputPlace => sheet::form::expr_fields(k),
     }
 }

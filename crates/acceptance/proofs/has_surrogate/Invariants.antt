@@ -1,12 +1,7 @@
-use mathlib.Core.Path.{◌≡◌}
-use Prim.Native.Nat.{◌-◌}
-use lib.ListN.{length, drop}
+use Rattle.std.proofs.Common.{◌≡◌, drop}
 use Rattle.recorder.specs.Word.{either}
 use Rattle.sheet.specs.Check.{has_surrogate}
 use Rattle.acceptance.proofs.has_surrogate.Given as goal
 
-abbrev pub invariant-loop-i : goal.invariant-loop-i
-invariant-loop-i l = either l.found (has_surrogate (drop l.i l.text)) ≡ has_surrogate l.text
-
-abbrev pub decreases-loop-i : goal.decreases-loop-i
-decreases-loop-i l = length l.text - l.i
+abbrev pub invariant-loop-u : goal.invariant-loop-u
+invariant-loop-u l = either l.found (has_surrogate (drop l.u-index l.text)) ≡ has_surrogate l.text

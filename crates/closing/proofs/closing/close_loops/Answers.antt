@@ -3,20 +3,11 @@ use mathlib.Core.Path.{refl, ◌∙◌}
 use Rattle.closing.proofs.OnePass.{rest_start, rest_step, rest_end}
 use Rattle.closing.proofs.closing.close_loops.Goals as goal
 
-pub loop-left-init : goal.loop-left-init
-loop-left-init c = (rest_start c.args.list.now c.args.n, refl, refl)
+pub loop-k-init : goal.loop-k-init
+loop-k-init c = (rest_start c.args.list.now c.args.n, refl)
 
-pub overflow_add-k : goal.overflow_add-k
-overflow_add-k c = omega arith
-
-pub overflow_sub-left : goal.overflow_sub-left
-overflow_sub-left c = omega arith
-
-pub loop-left-smaller : goal.loop-left-smaller
-loop-left-smaller c = omega arith
-
-pub loop-left-preserved : goal.loop-left-preserved
-loop-left-preserved c = (rest_step _ _ _ _ _ _ _ _ c.loop-left-test.true c.loop-left.invariant.0 c.loop_step-top.ensures, omega arith, c.loop_step-top.auto.list ∙ c.loop-left.invariant.2)
+pub loop-k-preserved : goal.loop-k-preserved
+loop-k-preserved c = (rest_step _ _ _ _ _ c.loop-k.k _ _ c.loop-k-test.true c.loop-k.invariant.0 c.loop_step-top.ensures, c.loop_step-top.auto.list ∙ c.loop-k.invariant.1)
 
 pub returns : goal.returns
-returns c = rest_end _ _ _ _ _ _ c.loop-left-test.false c.loop-left.invariant.0
+returns c = rest_end _ _ _ c.loop-k.k _ _ (omega (arith, c.loop-k-test.false)) c.loop-k.invariant.0

@@ -1,19 +1,14 @@
-use native.Mathlib.Omega.{arith}
-use mathlib.Core.Path.{refl, ◌∙◌}
+use Rattle.std.proofs.Common.{◌≡◌, ◌+◌, ◌-◌, ◌∙◌, arith}
 use Rattle.declarations.proofs.PlaceLaws.{step_pair, step_field, fields_done}
 use Rattle.declarations.proofs.field.field_each.Goals as goal
 
-pub loop-more-init : goal.loop-more-init
-loop-more-init c = (refl, refl, refl, refl, refl)
-
-pub overflow_sub-more : goal.overflow_sub-more
-overflow_sub-more c = omega arith
-
-pub loop-more-smaller : goal.loop-more-smaller
-loop-more-smaller c = omega arith
-
-pub loop-more-preserved : goal.loop-more-preserved
-loop-more-preserved c = (c.place_typed-y.auto.list ∙ c.compile_typed-x.auto.list ∙ c.loop-more.invariant.0, c.place_typed-y.auto.notes ∙ c.compile_typed-x.auto.notes ∙ c.loop-more.invariant.1, c.place_typed-y.auto.book ∙ c.compile_typed-x.auto.book ∙ c.loop-more.invariant.2, step_pair _ _ _ _ _ _ c.loop-more-test.true c.compile_typed-x.ensures.place c.place_typed-y.ensures.place ∙ c.loop-more.invariant.3, step_field _ _ _ _ _ _ _ _ _ _ _ c.loop-more-test.true c.compile_typed-x.ensures c.place_typed-y.ensures ∙ c.loop-more.invariant.4)
+pub loop-preserved : goal.loop-preserved
+loop-preserved c =
+    let e : c.args.n - (c.loop.counter + 1) ≡ c.args.n - c.loop.counter - 1 = omega arith in
+    rw e (record {
+      place = step_pair _ _ (c.args.n - c.loop.counter) _ _ _ (omega (arith, c.loop-test.true)) c.compile_typed-x.ensures.place c.place_typed-y.ensures.place ∙ c.loop.invariant.place;
+      result = step_field _ _ _ _ (c.args.n - c.loop.counter) _ _ _ _ _ _ (omega (arith, c.loop-test.true)) c.compile_typed-x.ensures c.place_typed-y.ensures ∙ c.loop.invariant.result;
+    })
 
 pub returns : goal.returns
-returns c = fields_done _ _ _ _ _ _ _ _ _ _ c.loop-more-test.false c.loop-more.invariant.3 c.loop-more.invariant.4
+returns c = fields_done _ _ _ _ _ _ _ _ _ _ (omega (arith, c.loop-test.false)) c.loop.invariant.place c.loop.invariant.result

@@ -1,68 +1,18 @@
-use native.Mathlib.Omega.{arith}
-use mathlib.Core.Path.{refl, ◌∙◌}
+use Rattle.std.proofs.Common.{◌≡◌, ◌+◌, ◌-◌, ◌∙◌, arith}
 use Rattle.nodes.proofs.Laws.{put_at}
 use Rattle.expressions.proofs.ExprLaws.{head, at_zero, at_var, at_text, at_number, at_func, at_user, at_binary, at_unary, at_index, at_inkey, at_other, step_place, step_args, none_left}
 use Rattle.expressions.proofs.expr.+expr_cycle.Goals as goal
 
-pub compile_args-loop-more-init : goal.compile_args-loop-more-init
-compile_args-loop-more-init t c = (omega arith, refl, refl, refl, refl, refl)
-
-pub compile_args-compile_expr-x-requires : goal.compile_args-compile_expr-x-requires
-compile_args-compile_expr-x-requires t c = omega arith
-
-pub compile_args-overflow_add-i : goal.compile_args-overflow_add-i
-compile_args-overflow_add-i t c = omega (arith, c.loop-more.invariant.0, c.loop-more-test.true, c.ranges.n)
-
-pub compile_args-overflow_sub-more : goal.compile_args-overflow_sub-more
-compile_args-overflow_sub-more t c = omega arith
-
-pub compile_args-loop-more-smaller : goal.compile_args-loop-more-smaller
-compile_args-loop-more-smaller t c = omega arith
-
-pub compile_args-loop-more-preserved : goal.compile_args-loop-more-preserved
-compile_args-loop-more-preserved t c = (omega (arith, c.loop-more.invariant.0, c.loop-more-test.true), c.compile_expr-x.auto.list ∙ c.loop-more.invariant.1, c.check_type.auto.notes ∙ c.compile_expr-x.auto.notes ∙ c.loop-more.invariant.2, c.compile_expr-x.auto.book ∙ c.loop-more.invariant.3, step_place _ _ _ _ _ _ _ _ _ _ c.loop-more-test.true c.compile_expr-x.ensures ∙ c.loop-more.invariant.4, step_args _ _ _ _ _ _ _ c.loop-more.i _ c.args.wants _ _ _ _ _ c.loop-more-test.true c.compile_expr-x.ensures c.want-w.ensures c.node_range.ensures (c.check_type.ensures _ _ _ _) ∙ c.loop-more.invariant.5)
+pub compile_args-loop-i-preserved : goal.compile_args-loop-i-preserved
+compile_args-loop-i-preserved t c =
+    let e : c.args.n - (c.loop-i.i + 1) ≡ c.args.n - c.loop-i.i - 1 = omega arith in
+    (c.compile_expr-x.auto.list ∙ c.loop-i.invariant.0, c.check_type.auto.notes ∙ c.compile_expr-x.auto.notes ∙ c.loop-i.invariant.1, c.compile_expr-x.auto.book ∙ c.loop-i.invariant.2, rw e (step_place _ _ _ _ _ _ _ _ _ _ (omega (arith, c.loop-i-test.true)) c.compile_expr-x.ensures ∙ c.loop-i.invariant.3), rw e (step_args _ _ _ _ _ _ _ c.loop-i.i _ c.args.wants _ _ _ _ _ (omega (arith, c.loop-i-test.true)) c.compile_expr-x.ensures c.want-w.ensures c.node_range.ensures (c.check_type.ensures _ _ _ _) ∙ c.loop-i.invariant.4))
 
 pub compile_args-returns : goal.compile_args-returns
-compile_args-returns t c = none_left _ _ _ _ _ _ _ _ _ _ _ _ c.loop-more-test.false c.loop-more.invariant.4 c.loop-more.invariant.5
+compile_args-returns t c = none_left _ _ _ _ _ _ _ _ _ _ _ _ (omega (arith, c.loop-i-test.false)) c.loop-i.invariant.3 c.loop-i.invariant.4
 
 pub compile_expr-returns-then-left-eq0 : goal.compile_expr-returns-then-left-eq0
 compile_expr-returns-then-left-eq0 t c = at_zero _ _ _ _ _ _ c.if-left-eq0.true
-
-pub compile_expr-overflow_sub-left : goal.compile_expr-overflow_sub-left
-compile_expr-overflow_sub-left t c = omega (arith, c.if-left-eq0.false)
-
-pub compile_expr-compile_args-x-requires : goal.compile_expr-compile_args-x-requires
-compile_expr-compile_args-x-requires t c = omega (arith, c.decreases, c.if-left-eq0.false)
-
-pub compile_expr-overflow_sub-left-in-4 : goal.compile_expr-overflow_sub-left-in-4
-compile_expr-overflow_sub-left-in-4 t c = omega (arith, c.if-left-eq0.false)
-
-pub compile_expr-compile_expr-x-requires : goal.compile_expr-compile_expr-x-requires
-compile_expr-compile_expr-x-requires t c = omega (arith, c.decreases, c.if-left-eq0.false)
-
-pub compile_expr-overflow_sub-left-in-5 : goal.compile_expr-overflow_sub-left-in-5
-compile_expr-overflow_sub-left-in-5 t c = omega (arith, c.if-left-eq0.false)
-
-pub compile_expr-compile_expr-x-requires-in-5 : goal.compile_expr-compile_expr-x-requires-in-5
-compile_expr-compile_expr-x-requires-in-5 t c = omega (arith, c.decreases, c.if-left-eq0.false)
-
-pub compile_expr-overflow_sub-left-in-5-2 : goal.compile_expr-overflow_sub-left-in-5-2
-compile_expr-overflow_sub-left-in-5-2 t c = omega (arith, c.if-left-eq0.false)
-
-pub compile_expr-compile_expr-y-requires : goal.compile_expr-compile_expr-y-requires
-compile_expr-compile_expr-y-requires t c = omega (arith, c.decreases, c.if-left-eq0.false)
-
-pub compile_expr-overflow_sub-left-in-6 : goal.compile_expr-overflow_sub-left-in-6
-compile_expr-overflow_sub-left-in-6 t c = omega (arith, c.if-left-eq0.false)
-
-pub compile_expr-compile_expr-x-requires-in-6 : goal.compile_expr-compile_expr-x-requires-in-6
-compile_expr-compile_expr-x-requires-in-6 t c = omega (arith, c.decreases, c.if-left-eq0.false)
-
-pub compile_expr-overflow_sub-left-in-7 : goal.compile_expr-overflow_sub-left-in-7
-compile_expr-overflow_sub-left-in-7 t c = omega (arith, c.if-left-eq0.false)
-
-pub compile_expr-compile_args-x-requires-in-7 : goal.compile_expr-compile_args-x-requires-in-7
-compile_expr-compile_args-x-requires-in-7 t c = omega (arith, c.decreases, c.if-left-eq0.false)
 
 pub compile_expr-returns-in-0 : goal.compile_expr-returns-in-0
 compile_expr-returns-in-0 t c = at_var _ _ _ _ _ _ _ _ _ _ _ (head _ _ _ _ _ _ _ c.if-left-eq0.false c.payload_at-k.ensures c.node_range-r.ensures c.behind.ensures c.behind-p.ensures) c.in-0.is c.var_node-ty.ensures

@@ -1,6 +1,4 @@
-use Prim.Native.Nat.{◌+◌, ◌*◌, ◌≤◌}
-use mathlib.Core.Path.{◌≡◌}
-use lib.ListN.{length}
+use Rattle.std.proofs.Common.{◌≡◌, ◌+◌, ◌-◌, ◌*◌, length}
 use Rattle.recorder.specs.Mem.{mem, mem_r}
 use Rattle.sheet.specs.declared.form.Sort.TheVariants.{Expr as exprSort}
 use Rattle.sheet.specs.Skip.{skip_node, skip_repeat}
@@ -15,10 +13,7 @@ decreases-compile_args l = 2 * l.left + 1
 abbrev pub decreases-compile_expr : goal.decreases-compile_expr
 decreases-compile_expr l = 2 * l.left
 
-abbrev pub invariant-compile_args-loop-more : goal.invariant-compile_args-loop-more
-invariant-compile_args-loop-more l = (l.i + l.more ≤ l.n) × (length l.list ≡ length l.initial.list) × (length l.notes ≡ length l.initial.notes) × (length l.book ≡ length l.initial.book)
-    × (skip_repeat l.sheet.now (skip_node l.sheet.now l.left exprSort) l.more l.p ≡ skip_repeat l.sheet.now (skip_node l.sheet.now l.left exprSort) l.n l.at)
-    × (compile_args (mem_r l.text.now) l.text.now l.base (wanted_by l.wants) l.i (args_at l.sheet.now l.left l.more l.p) (mem l.list l.notes l.book l.st) ≡ compile_args (mem_r l.text.now) l.text.now l.base (wanted_by l.wants) 0 (args_at l.sheet.now l.left l.n l.at) (mem l.initial.list l.initial.notes l.initial.book l.initial.st))
-
-abbrev pub decreases-compile_args-loop-more : goal.decreases-compile_args-loop-more
-decreases-compile_args-loop-more l = l.more
+abbrev pub invariant-compile_args-loop-i : goal.invariant-compile_args-loop-i
+invariant-compile_args-loop-i l = (length l.list ≡ length l.initial.list) × (length l.notes ≡ length l.initial.notes) × (length l.book ≡ length l.initial.book)
+    × (skip_repeat l.sheet.now (skip_node l.sheet.now l.left exprSort) (l.n - l.i) l.p ≡ skip_repeat l.sheet.now (skip_node l.sheet.now l.left exprSort) l.n l.at)
+    × (compile_args (mem_r l.text.now) l.text.now l.base (wanted_by l.wants) l.i (args_at l.sheet.now l.left (l.n - l.i) l.p) (mem l.list l.notes l.book l.st) ≡ compile_args (mem_r l.text.now) l.text.now l.base (wanted_by l.wants) 0 (args_at l.sheet.now l.left l.n l.at) (mem l.initial.list l.initial.notes l.initial.book l.initial.st))

@@ -10,7 +10,7 @@ pub overflow_sub-left : goal.overflow_sub-left
 overflow_sub-left c = omega (arith, c.if-left-eq0.false)
 
 pub returns-then-k-eq4 : goal.returns-then-k-eq4
-returns-then-k-eq4 c = taken_fn _ _ _ _ _ _ _ _ _ _ _ _ (head _ _ _ _ _ _ _ c.if-left-eq0.false c.payload_at-k.ensures c.node_range-r.ensures c.behind.ensures c.behind-p.ensures) c.if-k-eq4.true c.fn_input.ensures c.skip_expr-q.ensures
+returns-then-k-eq4 c = taken_fn _ _ _ _ _ _ _ _ _ _ _ _ (head _ _ _ _ _ _ _ c.if-left-eq0.false c.payload_at-k.ensures c.node_range-r.ensures c.behind.ensures c.behind-p.ensures) c.if-k-eq4.true c.fn_input.ensures c.skip_expr.ensures
 
 pub returns-else-k-eq4 : goal.returns-else-k-eq4
 returns-else-k-eq4 c = taken_place _ _ _ _ _ _ _ _ _ _ _ _ _ (head _ _ _ _ _ _ _ c.if-left-eq0.false c.payload_at-k.ensures c.node_range-r.ensures c.behind.ensures c.behind-p.ensures) c.if-k-eq4.false c.compile_lvalue-x.ensures

@@ -1,20 +1,15 @@
-use native.Mathlib.Omega.{arith}
-use mathlib.Core.Path.{refl, ◌∙◌}
+use Rattle.std.proofs.Common.{◌≡◌, ◌+◌, ◌-◌, ◌∙◌, arith}
 use Rattle.expressions.proofs.Lists.{step_expr}
 use Rattle.inputs.proofs.InputLaws.{step_taken, taken_all}
 use Rattle.inputs.proofs.input.input_vars.Goals as goal
 
-pub loop-more-init : goal.loop-more-init
-loop-more-init c = (refl, refl, refl, refl, refl)
-
-pub overflow_sub-more : goal.overflow_sub-more
-overflow_sub-more c = omega arith
-
-pub loop-more-smaller : goal.loop-more-smaller
-loop-more-smaller c = omega arith
-
-pub loop-more-preserved : goal.loop-more-preserved
-loop-more-preserved c = (c.input_var-p.auto.list ∙ c.loop-more.invariant.0, c.input_var-p.auto.notes ∙ c.loop-more.invariant.1, c.input_var-p.auto.book ∙ c.loop-more.invariant.2, step_expr _ _ _ _ _ c.loop-more-test.true c.input_var-p.ensures.place ∙ c.loop-more.invariant.3, step_taken _ _ _ _ _ _ _ _ _ _ c.loop-more-test.true c.input_var-p.ensures ∙ c.loop-more.invariant.4)
+pub loop-preserved : goal.loop-preserved
+loop-preserved c =
+    let e : c.args.n - (c.loop.counter + 1) ≡ c.args.n - c.loop.counter - 1 = omega arith in
+    rw e (record {
+      place = step_expr _ _ (c.args.n - c.loop.counter) _ _ (omega (arith, c.loop-test.true)) c.input_var-p.ensures.place ∙ c.loop.invariant.place;
+      result = step_taken _ _ _ _ (c.args.n - c.loop.counter) _ _ _ _ _ (omega (arith, c.loop-test.true)) c.input_var-p.ensures ∙ c.loop.invariant.result;
+    })
 
 pub returns : goal.returns
-returns c = taken_all _ _ _ _ _ _ _ _ _ _ _ c.loop-more-test.false c.loop-more.invariant.3 c.loop-more.invariant.4
+returns c = taken_all _ _ _ _ _ _ _ _ _ _ _ (omega (arith, c.loop-test.false)) c.loop.invariant.place c.loop.invariant.result

@@ -1,20 +1,12 @@
-use native.Mathlib.Omega.{arith}
-use mathlib.Core.Path.{refl, ◌∙◌}
+use Rattle.std.proofs.Common.{◌≡◌, ◌+◌, ◌-◌, ◌∙◌, arith}
 use Rattle.expressions.proofs.Lists.{step_two}
 use Rattle.jumps.proofs.JumpLaws.{over_done}
 use Rattle.jumps.proofs.jump.behind_targets.Goals as goal
 
-pub loop-more-init : goal.loop-more-init
-loop-more-init c = refl
-
-pub overflow_sub-more : goal.overflow_sub-more
-overflow_sub-more c = omega arith
-
-pub loop-more-smaller : goal.loop-more-smaller
-loop-more-smaller c = omega arith
-
-pub loop-more-preserved : goal.loop-more-preserved
-loop-more-preserved c = step_two c.args.sheet.now c.loop-more.more c.loop-more.p _ _ c.loop-more-test.true c.behind-q.ensures c.behind-p.ensures ∙ c.loop-more.invariant
+pub loop-preserved : goal.loop-preserved
+loop-preserved c =
+    let e : c.args.n - (c.loop.counter + 1) ≡ c.args.n - c.loop.counter - 1 = omega arith in
+    rw e (step_two c.args.sheet.now _ c.loop.p _ _ (omega (arith, c.loop-test.true)) c.behind-q.ensures c.behind-p.ensures ∙ c.loop.invariant)
 
 pub returns : goal.returns
-returns c = over_done c.args.sheet.now c.loop-more.more _ _ _ c.loop-more-test.false c.loop-more.invariant
+returns c = over_done c.args.sheet.now (c.args.n - c.loop.counter) _ _ _ (omega (arith, c.loop-test.false)) c.loop.invariant

@@ -1,8 +1,10 @@
-use Rattle.jumps.proofs.JumpLaws.{go_absent, go_given}
+use Rattle.rules.specs.Stmt.{compile_go}
 use Rattle.jumps.proofs.jump.compile_go.Goals as goal
 
-pub returns-in_default : goal.returns-in_default
-returns-in_default c = λ t n b base. go_absent t base _ _ c.args.o _ _ c.in_default.is (c.pending_jump.ensures t n b base)
+pub returns-in-Some : goal.returns-in-Some
+unfolding compile_go
+returns-in-Some c = rw c.in-Some.is c.pending_jump.ensures
 
-pub returns : goal.returns
-returns c = λ t n b base. go_given t base _ _ _ _ c.args.o _ _ c.in-Given.is (c.pending_jump-2.ensures t n b base)
+pub returns-in-None : goal.returns-in-None
+unfolding compile_go
+returns-in-None c = rw c.in-None.is c.pending_jump-in-None.ensures

@@ -1,19 +1,14 @@
-use native.Mathlib.Omega.{arith}
-use mathlib.Core.Path.{refl, ◌∙◌}
+use Rattle.std.proofs.Common.{◌≡◌, ◌+◌, ◌-◌, ◌∙◌, arith}
 use Rattle.loops.proofs.LoopLaws.{step_next, step_one, next_done}
 use Rattle.loops.proofs.for_loop.next_each.Goals as goal
 
-pub loop-more-init : goal.loop-more-init
-loop-more-init c = (refl, refl, refl, refl, refl)
-
-pub overflow_sub-more : goal.overflow_sub-more
-overflow_sub-more c = omega arith
-
-pub loop-more-smaller : goal.loop-more-smaller
-loop-more-smaller c = omega arith
-
-pub loop-more-preserved : goal.loop-more-preserved
-loop-more-preserved c = (c.next_one.auto.list ∙ c.loop-more.invariant.0, c.next_one.auto.notes ∙ c.loop-more.invariant.1, c.next_one.auto.book ∙ c.loop-more.invariant.2, step_one _ _ _ _ c.loop-more-test.true c.behind-p.ensures ∙ c.loop-more.invariant.3, step_next _ _ _ _ _ _ _ _ c.opt_range_at-o.result _ _ c.loop-more-test.true c.opt_range_at-o.ensures c.behind-p.ensures c.next_one.ensures ∙ c.loop-more.invariant.4)
+pub loop-preserved : goal.loop-preserved
+loop-preserved c =
+    let e : c.args.n - (c.loop.counter + 1) ≡ c.args.n - c.loop.counter - 1 = omega arith in
+    rw e (record {
+      place = step_one _ (c.args.n - c.loop.counter) _ _ (omega (arith, c.loop-test.true)) c.behind-p.ensures ∙ c.loop.invariant.place;
+      result = step_next _ _ _ _ _ (c.args.n - c.loop.counter) _ _ c.opt_range_at-o.result _ _ (omega (arith, c.loop-test.true)) c.opt_range_at-o.ensures c.behind-p.ensures c.next_one.ensures ∙ c.loop.invariant.result;
+    })
 
 pub returns : goal.returns
-returns c = next_done _ _ _ _ _ _ _ _ _ _ c.loop-more-test.false c.loop-more.invariant.3 c.loop-more.invariant.4
+returns c = next_done _ _ _ _ _ _ _ _ _ _ (omega (arith, c.loop-test.false)) c.loop.invariant.place c.loop.invariant.result

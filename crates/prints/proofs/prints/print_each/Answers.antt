@@ -1,19 +1,14 @@
-use native.Mathlib.Omega.{arith}
-use mathlib.Core.Path.{refl, ◌∙◌}
+use Rattle.std.proofs.Common.{◌≡◌, ◌+◌, ◌-◌, ◌∙◌, arith}
 use Rattle.prints.proofs.PrintLaws.{print_place, print_step, print_end}
 use Rattle.prints.proofs.prints.print_each.Goals as goal
 
-pub loop-more-init : goal.loop-more-init
-loop-more-init c = (refl, refl, refl, refl, λ child. refl)
-
-pub overflow_sub-more : goal.overflow_sub-more
-overflow_sub-more c = omega (arith, c.loop-more-test.true)
-
-pub loop-more-smaller : goal.loop-more-smaller
-loop-more-smaller c = omega (arith, c.loop-more-test.true)
-
-pub loop-more-preserved : goal.loop-more-preserved
-loop-more-preserved c = (c.print_one-p.auto.list ∙ c.loop-more.invariant.0, c.print_one-p.auto.notes ∙ c.loop-more.invariant.1, c.print_one-p.auto.book ∙ c.loop-more.invariant.2, print_place _ _ _ _ _ _ _ _ _ _ c.loop-more-test.true c.print_one-p.ensures ∙ c.loop-more.invariant.3, λ child. print_step _ _ _ _ _ _ _ _ _ _ c.loop-more-test.true c.print_one-p.ensures child ∙ c.loop-more.invariant.4 child)
+pub loop-i-preserved : goal.loop-i-preserved
+loop-i-preserved c =
+    let e : c.args.n - (c.loop-i.i + 1) ≡ c.args.n - c.loop-i.i - 1 = omega arith in
+    rw e (record {
+      place = print_place _ _ _ _ _ _ _ _ _ _ (omega (arith, c.loop-i-test.true)) c.print_one-p.ensures ∙ c.loop-i.invariant.place;
+      result = λ child. print_step _ _ _ _ _ _ _ _ _ _ (omega (arith, c.loop-i-test.true)) c.print_one-p.ensures child ∙ c.loop-i.invariant.result child;
+    })
 
 pub returns : goal.returns
-returns c = print_end _ _ _ _ _ _ _ _ _ _ _ c.loop-more-test.false c.loop-more.invariant.3 c.loop-more.invariant.4
+returns c = print_end _ _ _ _ _ _ _ _ _ _ _ (omega (arith, c.loop-i-test.false)) c.loop-i.invariant.place c.loop-i.invariant.result

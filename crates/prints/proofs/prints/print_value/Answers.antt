@@ -8,5 +8,5 @@ overflow_sub-left c = let d = tab_deep c.args.sheet.now.now c.args.left c.args.a
 pub returns-then-is_tab_spc : goal.returns-then-is_tab_spc
 returns-then-is_tab_spc c = value_tab _ _ _ _ _ _ _ _ _ _ _ _ _ _ _ c.node_range-er.ensures c.is_tab_spc.ensures c.if-is_tab_spc.true c.behind.ensures c.behind-p.ensures c.tab_call-x.ensures (c.behind_value.ensures c.args.text.now.now _ _)
 
-pub returns : goal.returns
-returns c = value_plain _ _ _ _ _ _ _ _ _ _ _ _ _ _ _ c.node_range-er.ensures c.is_tab_spc.ensures c.if-is_tab_spc.false c.compile_expr-x.ensures (c.print_call.ensures c.args.text.now.now _ _) (c.behind_value-2.ensures c.args.text.now.now _ _)
+pub returns-else-is_tab_spc : goal.returns-else-is_tab_spc
+returns-else-is_tab_spc c = value_plain _ _ _ _ _ _ _ _ _ _ _ _ _ _ _ c.node_range-er.ensures c.is_tab_spc.ensures c.if-is_tab_spc.false c.compile_expr-x.ensures (c.print_call.ensures c.args.text.now.now _ _) (c.behind_value-else-is_tab_spc.ensures c.args.text.now.now _ _)

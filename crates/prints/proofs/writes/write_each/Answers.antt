@@ -1,19 +1,14 @@
-use native.Mathlib.Omega.{arith}
-use mathlib.Core.Path.{refl, ◌∙◌}
+use Rattle.std.proofs.Common.{◌≡◌, ◌+◌, ◌-◌, ◌∙◌, arith}
 use Rattle.prints.proofs.WriteLaws.{write_place, write_step, write_end}
 use Rattle.prints.proofs.writes.write_each.Goals as goal
 
-pub loop-more-init : goal.loop-more-init
-loop-more-init c = (refl, refl, refl, refl, refl)
-
-pub overflow_sub-more : goal.overflow_sub-more
-overflow_sub-more c = omega (arith, c.loop-more-test.true)
-
-pub loop-more-smaller : goal.loop-more-smaller
-loop-more-smaller c = omega (arith, c.loop-more-test.true)
-
-pub loop-more-preserved : goal.loop-more-preserved
-loop-more-preserved c = (c.write_value.auto.list ∙ c.compile_expr-x.auto.list ∙ c.loop-more.invariant.0, c.write_value.auto.notes ∙ c.compile_expr-x.auto.notes ∙ c.loop-more.invariant.1, c.compile_expr-x.auto.book ∙ c.loop-more.invariant.2, write_place _ _ _ _ _ _ _ _ _ _ _ _ c.loop-more-test.true c.compile_expr-x.ensures c.read_payload-c.ensures ∙ c.loop-more.invariant.3, write_step _ _ _ _ _ _ _ _ _ _ _ _ _ _ _ c.loop-more-test.true c.compile_expr-x.ensures c.read_payload-c.ensures c.node_range-r.ensures (c.write_value.ensures _ _ _) ∙ c.loop-more.invariant.4)
+pub loop-i-preserved : goal.loop-i-preserved
+loop-i-preserved c =
+    let e : c.args.n - (c.loop-i.i + 1) ≡ c.args.n - c.loop-i.i - 1 = omega arith in
+    rw e (record {
+      place = write_place _ _ _ _ (c.args.n - c.loop-i.i) _ _ _ _ _ _ _ (omega (arith, c.loop-i-test.true)) c.compile_expr-x.ensures c.read_payload-c.ensures ∙ c.loop-i.invariant.place;
+      result = write_step _ _ _ _ _ (c.args.n - c.loop-i.i) _ _ _ _ _ _ _ _ _ (omega (arith, c.loop-i-test.true)) c.compile_expr-x.ensures c.read_payload-c.ensures c.node_range-r.ensures (c.write_value.ensures _ _ _) ∙ c.loop-i.invariant.result;
+    })
 
 pub returns : goal.returns
-returns c = write_end _ _ _ _ _ _ _ _ _ _ _ c.loop-more-test.false c.loop-more.invariant.3 c.loop-more.invariant.4
+returns c = write_end _ _ _ _ _ _ _ _ _ _ _ (omega (arith, c.loop-i-test.false)) c.loop-i.invariant.place c.loop-i.invariant.result

@@ -1,34 +1,34 @@
-use mathlib.Core.Path.{refl, sym, ◌∙◌}
+use Rattle.std.proofs.Common.{◌≡◌, ◌+◌, ◌-◌, ◌∙◌, sym, arith}
 use Rattle.recorder.proofs.Laws.{by_tag, tag_of_name, descent_step, descent_here, descent_none, descent_past, descent_end, descent_all}
+use Rattle.recorder.proofs.codegen.descent_to.Goals.{then-k-at-via-then-k-at, then-k-at-via-else-k-at+then-end-k}
 use Rattle.recorder.proofs.codegen.descent_to.Goals as goal
-
-pub loop-left-init : goal.loop-left-init
-loop-left-init c = refl
 
 pub returns-then-named_at : goal.returns-then-named_at
 returns-then-named_at c =
     let tag = tag_of_name c.args.text.now _ c.args.start c.args.len c.args.sigil _ _ c.sigil_code.ensures c.hash_of-hash.ensures c.tag_of-tag.ensures in
-    let here = by_tag c.args.text.now c.args.book.now c.loop-left.at _ c.args.start c.args.len c.args.sigil _ tag c.named_at.ensures in
-    (descent_all _ _ _ _ _ _ _ _ _ _ _ c.least-end.ensures c.less-at.ensures c.sigil_code.ensures c.hash_of-hash.ensures (descent_here _ _ _ _ _ _ _ _ _ _ _ c.loop-left-test.true c.loop-left.invariant here c.if-named_at.true), sym c.if-named_at.true ∙ here, tag)
+    let here = by_tag c.args.text.now c.args.book.now c.loop.at _ c.args.start c.args.len c.args.sigil _ tag c.named_at.ensures in
+    (descent_all _ _ _ _ _ _ _ _ _ _ _ c.min-end.ensures c.saturating_sub-at.ensures c.sigil_code.ensures c.hash_of-hash.ensures (descent_here _ _ _ _ _ _ _ _ _ _ _ (omega (arith, c.loop-test.true)) c.loop.invariant here c.if-named_at.true), sym c.if-named_at.true ∙ here, tag)
 
 pub returns-then-k-at : goal.returns-then-k-at
 returns-then-k-at c =
     let tag = tag_of_name c.args.text.now _ c.args.start c.args.len c.args.sigil _ _ c.sigil_code.ensures c.hash_of-hash.ensures c.tag_of-tag.ensures in
-    let here = by_tag c.args.text.now c.args.book.now c.loop-left.at _ c.args.start c.args.len c.args.sigil _ tag c.named_at.ensures in
-    (descent_all _ _ _ _ _ _ _ _ _ _ _ c.least-end.ensures c.less-at.ensures c.sigil_code.ensures c.hash_of-hash.ensures (descent_none _ _ _ _ _ _ _ _ _ _ _ _ c.loop-left-test.true c.loop-left.invariant here c.if-named_at.false c.child_of-k.ensures c.if-k-at.true), sym c.if-named_at.false ∙ here, tag)
+    let here = by_tag c.args.text.now c.args.book.now c.loop.at _ c.args.start c.args.len c.args.sigil _ tag c.named_at.ensures in (
+      descent_all _ _ _ _ _ _ _ _ _ _ _ c.min-end.ensures c.saturating_sub-at.ensures c.sigil_code.ensures c.hash_of-hash.ensures (elim c.then-k-at.branch [
+        | then-k-at-via-then-k-at w ↦ descent_none _ _ _ _ _ _ _ _ _ _ _ _ (omega (arith, c.loop-test.true)) c.loop.invariant here c.if-named_at.false c.child_of-k.ensures w.if-k-at.true
+        | then-k-at-via-else-k-at+then-end-k w ↦ descent_past _ _ _ _ _ _ _ _ _ _ _ _ (omega (arith, c.loop-test.true)) c.loop.invariant here c.if-named_at.false c.child_of-k.ensures w.if-k-at.false w.if-end-k.true
+      ]),
+      sym c.if-named_at.false ∙ here,
+      tag,
+    )
 
-pub returns-then-end-k : goal.returns-then-end-k
-returns-then-end-k c =
+pub loop-preserved : goal.loop-preserved
+loop-preserved c =
     let tag = tag_of_name c.args.text.now _ c.args.start c.args.len c.args.sigil _ _ c.sigil_code.ensures c.hash_of-hash.ensures c.tag_of-tag.ensures in
-    let here = by_tag c.args.text.now c.args.book.now c.loop-left.at _ c.args.start c.args.len c.args.sigil _ tag c.named_at.ensures in
-    (descent_all _ _ _ _ _ _ _ _ _ _ _ c.least-end.ensures c.less-at.ensures c.sigil_code.ensures c.hash_of-hash.ensures (descent_past _ _ _ _ _ _ _ _ _ _ _ _ c.loop-left-test.true c.loop-left.invariant here c.if-named_at.false c.child_of-k.ensures c.if-k-at.false c.if-end-k.true), sym c.if-named_at.false ∙ here, tag)
-
-pub loop-left-preserved : goal.loop-left-preserved
-loop-left-preserved c =
-    let tag = tag_of_name c.args.text.now _ c.args.start c.args.len c.args.sigil _ _ c.sigil_code.ensures c.hash_of-hash.ensures c.tag_of-tag.ensures in
-    descent_step _ _ _ _ _ _ _ _ _ _ _ _ _ c.loop-left-test.true c.loop-left.invariant (by_tag c.args.text.now c.args.book.now c.loop-left.at _ c.args.start c.args.len c.args.sigil _ tag c.named_at.ensures) c.if-named_at.false c.child_of-k.ensures c.if-k-at.false c.if-end-k.false c.next_bits-bits.ensures
+    let here = by_tag c.args.text.now c.args.book.now c.loop.at _ c.args.start c.args.len c.args.sigil _ tag c.named_at.ensures in
+    let e : c.min-end.result - (c.loop.counter + 1) ≡ c.min-end.result - c.loop.counter - 1 = omega arith in
+    rw e (descent_step _ _ _ _ _ _ _ _ _ _ _ _ _ (omega (arith, c.loop-test.true)) c.loop.invariant here c.if-named_at.false c.child_of-k.ensures c.if-k-at.false c.if-end-k.false c.next_bits-bits.ensures)
 
 pub returns : goal.returns
 returns c =
     let tag = tag_of_name c.args.text.now _ c.args.start c.args.len c.args.sigil _ _ c.sigil_code.ensures c.hash_of-hash.ensures c.tag_of-tag.ensures in
-    (descent_all _ _ _ _ _ _ _ _ _ _ _ c.least-end.ensures c.less-at.ensures c.sigil_code.ensures c.hash_of-hash.ensures (descent_end _ _ _ _ _ _ _ _ _ _ c.loop-left-test.false c.loop-left.invariant), by_tag c.args.text.now c.args.book.now c.loop-left.at _ c.args.start c.args.len c.args.sigil _ tag c.named_at-named.ensures, tag)
+    (descent_all _ _ _ _ _ _ _ _ _ _ _ c.min-end.ensures c.saturating_sub-at.ensures c.sigil_code.ensures c.hash_of-hash.ensures (descent_end _ _ _ _ _ _ _ _ _ _ (omega (arith, c.loop-test.false)) c.loop.invariant), by_tag c.args.text.now c.args.book.now c.loop.at _ c.args.start c.args.len c.args.sigil _ tag c.named_at-2.ensures, tag)

@@ -1,10 +1,6 @@
-use mathlib.Core.Path.{◌≡◌}
+use Rattle.std.proofs.Common.{◌≡◌, ◌+◌, ◌-◌}
 use Rattle.sheet.specs.Form.{name_tail}
-use mathlib.Core.Path.{◌≡◌}
 use Rattle.sheet.proofs.leaf.name_tail.Given as goal
 
-abbrev pub invariant-loop-left : goal.invariant-loop-left
-invariant-loop-left l = name_tail l.text l.p l.left ≡ name_tail l.text l.initial.p l.initial.left
-
-abbrev pub decreases-loop-left : goal.decreases-loop-left
-decreases-loop-left l = l.left
+abbrev pub invariant-loop : goal.invariant-loop
+invariant-loop l = name_tail l.text l.p (l.n + 1 - l.counter) ≡ name_tail l.text l.at l.n

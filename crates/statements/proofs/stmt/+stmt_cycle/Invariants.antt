@@ -1,6 +1,4 @@
-use Prim.Native.Nat.{◌+◌, ◌*◌}
-use mathlib.Core.Path.{◌≡◌}
-use lib.ListN.{length}
+use Rattle.std.proofs.Common.{◌≡◌, ◌+◌, ◌-◌, ◌*◌, length}
 use Rattle.recorder.specs.Mem.{mem, mem_r}
 use Rattle.sheet.specs.declared.form.Sort.TheVariants.{Stmt as stmtSort}
 use Rattle.sheet.specs.Skip.{skip_node, skip_repeat}
@@ -17,10 +15,7 @@ decreases-compile_stmt l = 3 * l.left
 abbrev pub decreases-compile_stmts : goal.decreases-compile_stmts
 decreases-compile_stmts l = 3 * l.left + 1
 
-abbrev pub invariant-compile_stmts-loop-more : goal.invariant-compile_stmts-loop-more
-invariant-compile_stmts-loop-more l = (length l.list ≡ length l.initial.list) × (length l.notes ≡ length l.initial.notes) × (length l.book ≡ length l.initial.book)
-    × (skip_repeat l.sheet.now (skip_node l.sheet.now l.left stmtSort) l.more l.p ≡ skip_repeat l.sheet.now (skip_node l.sheet.now l.left stmtSort) l.initial.more l.initial.p)
-    × (compile_stmts (mem_r l.text.now) l.text.now l.base (stmts_at l.sheet.now (stmt_at l.sheet.now l.left) (skip_node l.sheet.now l.left stmtSort) l.more l.p) (mem l.list l.notes l.book l.st) ≡ compile_stmts (mem_r l.text.now) l.text.now l.base (stmts_at l.sheet.now (stmt_at l.sheet.now l.left) (skip_node l.sheet.now l.left stmtSort) l.initial.more l.initial.p) (mem l.initial.list l.initial.notes l.initial.book l.initial.st))
-
-abbrev pub decreases-compile_stmts-loop-more : goal.decreases-compile_stmts-loop-more
-decreases-compile_stmts-loop-more l = l.more
+abbrev pub invariant-compile_stmts-loop : goal.invariant-compile_stmts-loop
+invariant-compile_stmts-loop l = (length l.list ≡ length l.initial.list) × (length l.notes ≡ length l.initial.notes) × (length l.book ≡ length l.initial.book)
+    × (skip_repeat l.sheet.now (skip_node l.sheet.now l.left stmtSort) (l.end - l.counter) l.p ≡ skip_repeat l.sheet.now (skip_node l.sheet.now l.left stmtSort) l.end l.initial.p)
+    × (compile_stmts (mem_r l.text.now) l.text.now l.base (stmts_at l.sheet.now (stmt_at l.sheet.now l.left) (skip_node l.sheet.now l.left stmtSort) (l.end - l.counter) l.p) (mem l.list l.notes l.book l.st) ≡ compile_stmts (mem_r l.text.now) l.text.now l.base (stmts_at l.sheet.now (stmt_at l.sheet.now l.left) (skip_node l.sheet.now l.left stmtSort) l.end l.initial.p) (mem l.initial.list l.initial.notes l.initial.book l.initial.st))

@@ -1,11 +1,8 @@
-use mathlib.Core.Path.{◌≡◌}
+use Rattle.std.proofs.Common.{◌≡◌, ◌-◌}
 use Rattle.recorder.specs.Mem.{mem_r}
 use Rattle.sheet.specs.Tree.{args_at}
 use Rattle.rules.specs.Stmt.{all_bytes}
 use Rattle.transfers.proofs.loads.all_bytes.Given as goal
 
-abbrev pub invariant-loop-more : goal.invariant-loop-more
-invariant-loop-more l = all_bytes (mem_r l.text) l.text l.base (args_at l.sheet l.left l.more l.p) ≡ all_bytes (mem_r l.text) l.text l.base (args_at l.sheet l.left l.n l.at)
-
-abbrev pub decreases-loop-more : goal.decreases-loop-more
-decreases-loop-more l = l.more
+abbrev pub invariant-loop : goal.invariant-loop
+invariant-loop l = all_bytes (mem_r l.text) l.text l.base (args_at l.sheet l.left (l.n - l.counter) l.p) ≡ all_bytes (mem_r l.text) l.text l.base (args_at l.sheet l.left l.n l.at)

@@ -1,20 +1,15 @@
-use native.Mathlib.Omega.{arith}
-use mathlib.Core.Path.{refl, ◌∙◌}
+use Rattle.std.proofs.Common.{◌≡◌, ◌+◌, ◌-◌, ◌∙◌, arith}
 use Rattle.expressions.proofs.Lists.{step_expr}
 use Rattle.transfers.proofs.LoadLaws.{bad_step, bad_end}
 use Rattle.transfers.proofs.loads.bad_bytes.Goals as goal
 
-pub loop-more-init : goal.loop-more-init
-loop-more-init c = (refl, refl, λ l b. refl)
-
-pub overflow_sub-more : goal.overflow_sub-more
-overflow_sub-more c = omega (arith, c.loop-more-test.true)
-
-pub loop-more-smaller : goal.loop-more-smaller
-loop-more-smaller c = omega (arith, c.loop-more-test.true)
-
-pub loop-more-preserved : goal.loop-more-preserved
-loop-more-preserved c = (c.bad_byte.auto.notes ∙ c.loop-more.invariant.0, step_expr c.args.sheet.now.now c.args.left c.loop-more.more c.loop-more.p _ c.loop-more-test.true c.skip_expr-p.ensures ∙ c.loop-more.invariant.1, λ l b. bad_step c.args.sheet.now.now c.args.text.now.now c.args.base c.args.left c.loop-more.more c.loop-more.p _ c.byte_of-v.result c.node_range-r.result _ _ c.loop-more-test.true c.byte_of-v.ensures c.node_range-r.ensures (c.bad_byte.ensures c.args.text.now.now l b c.args.base) c.skip_expr-p.ensures ∙ c.loop-more.invariant.2 l b)
+pub loop-preserved : goal.loop-preserved
+loop-preserved c =
+    let e : c.args.n - (c.loop.counter + 1) ≡ c.args.n - c.loop.counter - 1 = omega arith in
+    rw e (record {
+      place = step_expr _ _ (c.args.n - c.loop.counter) _ _ (omega (arith, c.loop-test.true)) c.skip_expr-p.ensures ∙ c.loop.invariant.place;
+      result = λ l b. bad_step _ _ c.args.base _ (c.args.n - c.loop.counter) _ _ c.byte_of-v.result c.node_range-r.result _ _ (omega (arith, c.loop-test.true)) c.byte_of-v.ensures c.node_range-r.ensures (c.bad_byte.ensures c.args.text.now.now l b c.args.base) c.skip_expr-p.ensures ∙ c.loop.invariant.result l b;
+    })
 
 pub returns : goal.returns
-returns c = bad_end _ _ _ _ _ _ _ _ _ _ _ _ c.loop-more-test.false c.loop-more.invariant.1 c.loop-more.invariant.2
+returns c = bad_end _ _ _ _ _ _ _ _ _ _ _ _ (omega (arith, c.loop-test.false)) c.loop.invariant.place c.loop.invariant.result

@@ -1,7 +1,4 @@
-use mathlib.Core.Path.{◌≡◌}
-use Prim.Native.Nat.{◌+◌, ◌-◌, ◌*◌, ◌≤◌}
-use lib.ListN.{length}
-use Rattle.sheet.specs.Parts.{fields_from}
+use Rattle.std.proofs.Common.{◌≡◌, ◌+◌, ◌-◌, ◌*◌, ◌≤◌, length, drop}
 use Rattle.sheet.specs.Skip.{skip_pair, skip_repeat, skip_fields, skip_node}
 use Rattle.walk.proofs.stmt.+skip_cycle.Given as goal
 
@@ -29,14 +26,14 @@ decreases-skip_pair l = 8 * (length l.sheet.now - l.at) + 3
 abbrev pub decreases-skip_source : goal.decreases-skip_source
 decreases-skip_source l = 8 * (length l.sheet.now - l.at) + 1
 
-abbrev pub invariant-skip_fields-loop-j : goal.invariant-skip_fields-loop-j
-invariant-skip_fields-loop-j l = (l.initial.p ≤ l.p) × (skip_fields l.sheet (skip_node l.sheet l.left) (fields_from l.j (l.e - l.j)) l.p ≡ skip_fields l.sheet (skip_node l.sheet l.left) (fields_from l.initial.j (l.e - l.initial.j)) l.initial.p)
+abbrev pub invariant-skip_fields-loop-f : goal.invariant-skip_fields-loop-f
+invariant-skip_fields-loop-f l = record {
+  later : l.at ≤ l.p;
+  same : skip_fields l.sheet (skip_node l.sheet l.left) (drop l.f-index l.fields) l.p ≡ skip_fields l.sheet (skip_node l.sheet l.left) l.fields l.at;
+}
 
-abbrev pub decreases-skip_fields-loop-j : goal.decreases-skip_fields-loop-j
-decreases-skip_fields-loop-j l = l.e - l.j
-
-abbrev pub invariant-skip_list-loop-n : goal.invariant-skip_list-loop-n
-invariant-skip_list-loop-n l = (l.initial.p ≤ l.p) × (skip_repeat l.sheet (skip_pair l.sheet (skip_node l.sheet l.left) l.a l.b) l.n l.p ≡ skip_repeat l.sheet (skip_pair l.sheet (skip_node l.sheet l.left) l.a l.b) l.initial.n l.initial.p)
-
-abbrev pub decreases-skip_list-loop-n : goal.decreases-skip_list-loop-n
-decreases-skip_list-loop-n l = l.n
+abbrev pub invariant-skip_list-loop : goal.invariant-skip_list-loop
+invariant-skip_list-loop l = record {
+  later : l.initial.p ≤ l.p;
+  same : skip_repeat l.sheet (skip_pair l.sheet (skip_node l.sheet l.left) l.a l.b) (l.end - l.counter) l.p ≡ skip_repeat l.sheet (skip_pair l.sheet (skip_node l.sheet l.left) l.a l.b) l.end l.initial.p;
+}

@@ -1,0 +1,66 @@
+use Rattle.std.proofs.Common.{◌≡◌, ◌+◌, ◌-◌, ◌≤◌, ◌∙◌, sym, arith, rules}
+use Rattle.sheet.specs.declared.form.Item.TheVariants.{Nothing}
+use Rattle.sheet.specs.declared.form.Sort.TheVariants.{Expr}
+use Rattle.sheet.specs.Table.{expr}
+use Rattle.sheet.specs.Form.{name_form}
+use Rattle.walk.proofs.Cycle.{later, repeat_step, repeat_stop, repeat_end}
+use Rattle.walk.proofs.Steps.{node_ends, non_empty_ends, name_ends, absent_or}
+use Rattle.walk.proofs.Lines.{alone}
+use Rattle.accept_exprs.specs.Read.{node_in, pair_in}
+use Rattle.accept_exprs.proofs.Fields.{field_some, operator_ends, past_own}
+use Rattle.accept_exprs.proofs.expr.+form_cycle.Goals as goal
+
+pub exprs_form-expr_form-requires : goal.exprs_form-expr_form-requires
+exprs_form-expr_form-requires t c = omega (arith, c.decreases, c.loop.invariant.later, later c.args.form.now.sheet.now _ _ _ _ (non_empty_ends c.args.form.now.sheet.now c.args.at) c.non_empty_form.ensures c.in_ok-p.was)
+
+pub exprs_form-loop-preserved : goal.exprs_form-loop-preserved
+exprs_form-loop-preserved t c =
+    let h : c.loop.p ≤ c.in_ok-p-2.p = later c.args.form.now.sheet.now _ _ _ _ (node_ends c.args.form.now.sheet.now c.args.form.now.text.now c.args.form.now.line c.args.left Expr c.loop.p) c.expr_form.ensures c.in_ok-p-2.was in
+    let e : c.payload_at-end.result - (c.loop.counter + 1) ≡ c.payload_at-end.result - c.loop.counter - 1 = omega arith in
+    record {
+      later = omega (arith, h, c.loop.invariant.later);
+      same = rw e (repeat_step c.args.form.now.sheet.now c.args.form.now.text.now c.args.form.now.line (pair_in c.args.form.now c.args.left expr Nothing) _ _ _ _ _ (omega (arith, c.loop-test.true)) (c.expr_form.ensures ∙ sym (alone c.args.form.now.sheet.now c.args.form.now.text.now c.args.form.now.line (node_in c.args.form.now c.args.left) Expr c.loop.p)) c.in_ok-p-2.was c.loop.invariant.same);
+    }
+
+pub exprs_form-returns-in_err-p-2 : goal.exprs_form-returns-in_err-p-2
+exprs_form-returns-in_err-p-2 t c =
+    let e : c.from_residual-in_err-p-2.result ≡ c.expr_form.result = search rules in
+    e ∙ repeat_stop c.args.form.now.sheet.now c.args.form.now.text.now c.args.form.now.line (pair_in c.args.form.now c.args.left expr Nothing) _ _ _ _ _ _ _ (omega (arith, c.loop-test.true)) (c.expr_form.ensures ∙ sym (alone c.args.form.now.sheet.now c.args.form.now.text.now c.args.form.now.line (node_in c.args.form.now c.args.left) Expr c.loop.p)) c.in_err-p-2.was c.loop.invariant.same c.payload_at-end.ensures
+    ∙ sym (field_some c.args.form.now.sheet.now c.args.form.now.text.now c.args.form.now.line (node_in c.args.form.now c.args.left) expr c.args.at c.in_ok-p.p (sym c.non_empty_form.ensures ∙ c.in_ok-p.was))
+
+pub exprs_form-returns : goal.exprs_form-returns
+exprs_form-returns t c =
+    repeat_end c.args.form.now.sheet.now c.args.form.now.text.now c.args.form.now.line (pair_in c.args.form.now c.args.left expr Nothing) _ _ _ _ _ (omega (arith, c.loop-test.false)) c.loop.invariant.same c.payload_at-end.ensures
+    ∙ sym (field_some c.args.form.now.sheet.now c.args.form.now.text.now c.args.form.now.line (node_in c.args.form.now c.args.left) expr c.args.at c.in_ok-p.p (sym c.non_empty_form.ensures ∙ c.in_ok-p.was))
+
+pub expr_form-exprs_form-requires : goal.expr_form-exprs_form-requires
+expr_form-exprs_form-requires t c =
+    let past = past_own c.args.form.now.sheet.now c.args.form.now.text.now c.args.form.now.line c.args.at _ _ _ (sym c.head_form.ensures ∙ c.in_ok-h.was) (sym c.own_form.ensures ∙ c.in_ok-q.was) in
+    omega (arith, c.decreases, past.0, past.1, later c.args.form.now.sheet.now _ _ _ _ (operator_ends c.args.form.now.sheet.now c.args.form.now.text.now c.args.form.now.line _ c.in_ok-q.q) c.operator_form.ensures c.in_ok-p-in-3.was)
+
+pub expr_form-expr_form-requires : goal.expr_form-expr_form-requires
+expr_form-expr_form-requires t c =
+    let past = past_own c.args.form.now.sheet.now c.args.form.now.text.now c.args.form.now.line c.args.at _ _ _ (sym c.head_form.ensures ∙ c.in_ok-h.was) (sym c.own_form.ensures ∙ c.in_ok-q.was) in
+    omega (arith, c.decreases, past.0, past.1, later c.args.form.now.sheet.now _ _ _ _ (absent_or c.args.form.now.sheet.now c.in_ok-q.q (name_form c.args.form.now.sheet.now c.args.form.now.text.now c.args.form.now.line) (name_ends c.args.form.now.sheet.now c.args.form.now.text.now c.args.form.now.line c.in_ok-q.q)) c.optional_name_form.ensures c.in_ok-p-in-4.was)
+
+pub expr_form-expr_form-requires-in-5 : goal.expr_form-expr_form-requires-in-5
+expr_form-expr_form-requires-in-5 t c =
+    let past = past_own c.args.form.now.sheet.now c.args.form.now.text.now c.args.form.now.line c.args.at _ _ _ (sym c.head_form.ensures ∙ c.in_ok-h.was) (sym c.own_form.ensures ∙ c.in_ok-q.was) in
+    omega (arith, c.decreases, past.0, past.1)
+
+pub expr_form-expr_form-requires-in-5-2 : goal.expr_form-expr_form-requires-in-5-2
+expr_form-expr_form-requires-in-5-2 t c =
+    let past = past_own c.args.form.now.sheet.now c.args.form.now.text.now c.args.form.now.line c.args.at _ _ _ (sym c.head_form.ensures ∙ c.in_ok-h.was) (sym c.own_form.ensures ∙ c.in_ok-q.was) in
+    let p = later c.args.form.now.sheet.now _ _ _ _ (node_ends c.args.form.now.sheet.now c.args.form.now.text.now c.args.form.now.line (c.args.left - 1) Expr c.in_ok-q.q) c.expr_form-in-5.ensures c.in_ok-p-in-5.was in
+    let o = later c.args.form.now.sheet.now _ _ _ _ (operator_ends c.args.form.now.sheet.now c.args.form.now.text.now c.args.form.now.line _ c.in_ok-p-in-5.p) c.operator_form-in-5.ensures c.in_ok-o-in-5.was in
+    omega (arith, c.decreases, past.0, past.1, p, o)
+
+pub expr_form-expr_form-requires-in-6 : goal.expr_form-expr_form-requires-in-6
+expr_form-expr_form-requires-in-6 t c =
+    let past = past_own c.args.form.now.sheet.now c.args.form.now.text.now c.args.form.now.line c.args.at _ _ _ (sym c.head_form.ensures ∙ c.in_ok-h.was) (sym c.own_form.ensures ∙ c.in_ok-q.was) in
+    omega (arith, c.decreases, past.0, past.1, later c.args.form.now.sheet.now _ _ _ _ (operator_ends c.args.form.now.sheet.now c.args.form.now.text.now c.args.form.now.line _ c.in_ok-q.q) c.operator_form-in-6.ensures c.in_ok-p-in-6.was)
+
+pub expr_form-exprs_form-requires-in-7 : goal.expr_form-exprs_form-requires-in-7
+expr_form-exprs_form-requires-in-7 t c =
+    let past = past_own c.args.form.now.sheet.now c.args.form.now.text.now c.args.form.now.line c.args.at _ _ _ (sym c.head_form.ensures ∙ c.in_ok-h.was) (sym c.own_form.ensures ∙ c.in_ok-q.was) in
+    omega (arith, c.decreases, past.0, past.1, later c.args.form.now.sheet.now _ _ _ _ (absent_or c.args.form.now.sheet.now c.in_ok-q.q (name_form c.args.form.now.sheet.now c.args.form.now.text.now c.args.form.now.line) (name_ends c.args.form.now.sheet.now c.args.form.now.text.now c.args.form.now.line c.in_ok-q.q)) c.optional_name_form-in-7.ensures c.in_ok-p-in-7.was)

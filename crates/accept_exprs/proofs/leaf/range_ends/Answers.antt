@@ -1,7 +1,0 @@
-use Rattle.accept_exprs.specs.Reach.{line_from}
-use Rattle.walk.proofs.Steps.{range_ends}
-use Rattle.accept_exprs.proofs.Reaches.{reach_leaf}
-use Rattle.accept_exprs.proofs.leaf.range_ends.Goals as goal
-
-pub returns : goal.returns
-returns c = reach_leaf c.args.sheet.now _ _ _ _ (range_ends c.args.sheet.now (line_from c.args.base c.args.len) c.args.at) c.range_form.ensures c.ends.ensures

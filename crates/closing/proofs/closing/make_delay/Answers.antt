@@ -1,6 +1,0 @@
-use Rattle.recorder.specs.Mem.{delayed_at}
-use Rattle.closing.proofs.closing.make_delay.Goals as goal
-
-pub returns : goal.returns
-unfolding delayed_at
-returns c = rw (c.rewrite_at-3.ensures, c.rewrite_at-2.ensures, c.whole_at.ensures, c.rewrite_at.ensures)
