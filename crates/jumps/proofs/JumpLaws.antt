@@ -14,8 +14,7 @@ use Rattle.rules.specs.Stmt.{pending_jump, compile_restore, label_or0, on_jumps,
 use Rattle.expressions.specs.Body.{Body}
 use Rattle.expressions.specs.Lists.{two_on}
 use Rattle.expressions.proofs.Lists.{items_step}
-use Rattle.std.specs.Prelude.{Option, Some, None}
-use Rattle.std.specs.Option.{unwrap_or}
+use Rattle.std.specs.Prelude.{Option}
 use Rattle.jumps.specs.Parts.{target_of, label_of, on_targets_at}
 
 pub restore_of : (s t : List ℕ) (base left k : ℕ) (r : Range) (p q : ℕ) (o : Option (Range × Label)) (m m1 : Mem) → target_of o ≡ opt_at s (target_at s) p
@@ -24,10 +23,6 @@ unfolding stmt_node compile_stmt skip_fields skip_field skip_times skip_pair ski
 restore_of s t base left k r p q o m m1 ho e f = record { place = f; result = λ child. e ∙ ap (λ g. compile_restore (mem_r t) t base r g m) ho }
 
 -- ON
-pub label_is : (o : Option Label) → label_or0 (label_of o) ≡ (unwrap_or o (record { 0 = 0 })).0
-label_is None = refl
-label_is (Some l) = refl
-
 jumps_more : (t : List ℕ) (base sub : ℕ) (g : OnTarget) (gs : List OnTarget) (m : Mem) → on_jumps (mem_r t) t base sub (g ∷ gs) m
     ≡ on_jumps (mem_r t) t base sub gs (pending_jump (mem_r t) t base sub g.range (label_or0 g.label) g.range m)
 unfolding on_jumps

@@ -73,10 +73,11 @@ fn pending_jump(list: &mut [u32], st: &mut St, sub: u32, r: Range, l: Label, lr:
 fn compile_go(list: &mut [u32], st: &mut St, r: Range, sub: u32, o: Option<(Range, Label)>)
     ensures { (t n b : List ℕ) (base : ℕ) → mem list.new n b st.new ≡ compile_go (mem_r t) t base r sub (target_of o) (mem list.old n b st.old) }
 {
-    match o {
-        Some((lr, l)) => pending_jump(list, st, sub, r, l, lr),
-        None => pending_jump(list, st, sub, r, Label(0), r),
-    }
+    let Some((lr, l)) = o else {
+        pending_jump(list, st, sub, r, Label(0), r);
+        return;
+    };
+    pending_jump(list, st, sub, r, l, lr)
 }
 
 #[tactic(auto, unfolding(sheet::specs::Tree::stmt_node, rules::specs::Stmt::compile_stmt, sheet::specs::Skip::skip_fields, sheet::specs::Skip::skip_field, sheet::specs::Skip::skip_times, sheet::specs::Skip::skip_pair, sheet::specs::Skip::skip_item))]
@@ -102,14 +103,13 @@ pub fn compile_goto(sheet: &&[u32], list: &mut [u32], st: &mut St, at: usize, r:
 fn restore_node(list: &mut [u32], st: &mut St, r: Range, o: Option<(Range, Label)>)
     ensures { (t n b : List ℕ) (base : ℕ) → mem list.new n b st.new ≡ compile_restore (mem_r t) t base r (target_of o) (mem list.old n b st.old) }
 {
-    match o {
-        Some((lr, l)) => {
-            let w = packed(lr);
-            let v = (l.0 as u32) + 1;
-            recorder::codegen::emit_restore(list, st, r, v, w)
-        }
-        None => recorder::codegen::emit_restore(list, st, r, 0, 0),
-    }
+    let Some((lr, l)) = o else {
+        recorder::codegen::emit_restore(list, st, r, 0, 0);
+        return;
+    };
+    let w = packed(lr);
+    let v = (l.0 as u32) + 1;
+    recorder::codegen::emit_restore(list, st, r, v, w)
 }
 
 pub fn compile_restore(sheet: &&[u32], list: &mut [u32], st: &mut St, at: usize, r: Range) -> usize
@@ -123,7 +123,10 @@ pub fn compile_restore(sheet: &&[u32], list: &mut [u32], st: &mut St, at: usize,
 fn on_jump(list: &mut [u32], st: &mut St, sub: u32, r: Range, o: Option<Label>)
     ensures { (t n b : List ℕ) (base : ℕ) → mem list.new n b st.new ≡ pending_jump (mem_r t) t base sub r (label_or0 (label_of o)) r (mem list.old n b st.old) }
 {
-    let l = o.unwrap_or(Label(0));
+    let Some(l) = o else {
+        pending_jump(list, st, sub, r, Label(0), r);
+        return;
+    };
     pending_jump(list, st, sub, r, l, r)
 }
 

@@ -23,10 +23,11 @@ pub struct Lines {
 fn label_note(notes: &mut [u32], st: &mut St, last: u32, o: Option<(Range, Label)>)
     ensures { (t l b : List ℕ) (base : ℕ) → mem l notes.new b st.new ≡ label_note (mem_r t) t base last (target_of o) (mem l notes.old b st.old) }
 {
-    if let Some((r, l)) = o {
-        if (l.0 as u32) < last {
-            recorder::codegen::note(notes, st, 1, r, 1)
-        }
+    let Some((r, l)) = o else {
+        return;
+    };
+    if (l.0 as u32) < last {
+        recorder::codegen::note(notes, st, 1, r, 1)
     }
 }
 
@@ -34,19 +35,19 @@ fn label_note(notes: &mut [u32], st: &mut St, last: u32, o: Option<(Range, Label
 fn mark_line(work: &mut [u32], n: usize, o: Option<(Range, Label)>, addr: Addr, first: u32) -> usize
     ensures { (work.new ≡ line_work (target_of o) addr.0 first work.old n) × (result ≡ line_count (target_of o) work.old n) }
 {
-    match o {
-        Some((_, l)) => labels::marks::put_mark(work, n, l, addr, first),
-        None => n,
-    }
+    let Some((_, l)) = o else {
+        return n;
+    };
+    labels::marks::put_mark(work, n, l, addr, first)
 }
 
 fn last_label(last: u32, o: Option<(Range, Label)>) -> u32
     ensures { result ≡ last_label last (target_of o) }
 {
-    match o {
-        Some((_, l)) => (l.0 as u32) + 1,
-        None => last,
-    }
+    let Some((_, l)) = o else {
+        return last;
+    };
+    (l.0 as u32) + 1
 }
 
 // One line: its length, its label, its statements.

@@ -1,10 +1,10 @@
 use Rattle.rules.specs.Stmt.{compile_go}
 use Rattle.jumps.proofs.jump.compile_go.Goals as goal
 
-pub returns-in-Some : goal.returns-in-Some
+pub returns-in_default : goal.returns-in_default
 unfolding compile_go
-returns-in-Some c = rw c.in-Some.is c.pending_jump.ensures
+returns-in_default c = rw c.in_default.is c.pending_jump.ensures
 
-pub returns-in-None : goal.returns-in-None
+pub returns : goal.returns
 unfolding compile_go
-returns-in-None c = rw c.in-None.is c.pending_jump-in-None.ensures
+returns c = rw c.in-Some.is c.pending_jump-2.ensures
