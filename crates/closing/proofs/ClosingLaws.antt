@@ -11,7 +11,8 @@ use native.Mathlib.Omega.{arith}
 use Rattle.recorder.specs.Word.{pick, both, either, kind_at, word_of}
 use Rattle.recorder.specs.Ideal.{Rec}
 use Rattle.recorder.specs.Closing.{is_while, is_wend, is_end, up_to, round_up}
-use Rattle.recorder.specs.Mem.{note_list, note_st, rec_of, set_b, at_rec, while_list, while_top, Passed, passed, open_from, unit_of, known, sigil_of, unlink_at, unlink_from, unlinked}
+use Rattle.closing.specs.Parts.{passed_of}
+use Rattle.recorder.specs.Mem.{Mem, mem, put_note, link_at, rec_of, set_b, at_rec, while_list, while_top, Passed, passed, open_from, unit_of, known, sigil_of, unlink_at, unlink_from, unlinked}
 use Rattle.recorder.proofs.Bools.{never, both_false}
 
 -- tests in a row
@@ -47,23 +48,27 @@ while_other l top k c f e g h i =
     (rw (w, v), rw (w, v))
 
 -- the WHILEs that are open
-pub open_step_lem : (l l' n n' : List ℕ) (s s' : List ℕ) (t t' k end : ℕ) (P : Passed) → k < end → open_from (passed l n s) t (end - k) ≡ P → (t ≡ 0 → ⊥) → t' ≡ (rec_of l (t - 1)).b
-    → (n' ≡ note_list n s (word_of 13 (get_or l (5 * (t - 1)) 0)) (get_or l (5 * (t - 1) + 1) 0) 1) × (s' ≡ note_st n s) → l' ≡ at_rec (set_b 4294967295) l (t - 1)
-    → open_from (passed l' n' s') t' (end - (k + 1)) ≡ P
+pub open_step_lem : (m m1 : Mem) (l : List ℕ) (t t' k end : ℕ) (P : Passed) → k < end → open_from (passed_of m) t (end - k) ≡ P → (t ≡ 0 → ⊥) → t' ≡ link_at m.list (t - 1)
+    → m1 ≡ put_note m (word_of 13 (get_or m.list (5 * (t - 1)) 0)) (get_or m.list (5 * (t - 1) + 1) 0) 1 → l ≡ at_rec (set_b 4294967295) m1.list (t - 1)
+    → open_from (passed l m1.notes m1.st) t' (end - (k + 1)) ≡ P
 unfolding open_from
-open_step_lem l l' n n' s s' t t' k end P h e z b g m =
+open_step_lem m m1 l t t' k end P h e z b g x =
     let q : end - k ≡ suc (end - (k + 1)) = omega arith in
-    rw (g.0, g.1, m, b) (rw (ne_eqb t 0 z) at (rw q at e))
+    rw (x, g, b) (rw (ne_eqb t 0 z) at (rw q at e))
 
-pub open_stop : (l n : List ℕ) (s : List ℕ) (t k end : ℕ) (P : Passed) → k < end → open_from (passed l n s) t (end - k) ≡ P → t ≡ 0 → passed l n s ≡ P
+pub open_stop : (m : Mem) (b : List ℕ) (t k end : ℕ) (P : Passed) → k < end → m.book ≡ b → open_from (passed_of m) t (end - k) ≡ P → t ≡ 0 → m ≡ mem P.list P.notes b P.st
 unfolding open_from
-open_stop l n s t k end P h e z =
+open_stop m b t k end P h i e z =
     let q : end - k ≡ suc (end - (k + 1)) = omega arith in
-    rw (eq-eqb t 0 z) at (rw q at e)
+    let p : passed_of m ≡ P = rw (eq-eqb t 0 z) at (rw q at e) in
+    rw (← i, ← p) refl
 
-pub open_end : (l n : List ℕ) (s : List ℕ) (t k end : ℕ) (P : Passed) → end ≤ k → open_from (passed l n s) t (end - k) ≡ P → passed l n s ≡ P
+pub open_end : (m : Mem) (b : List ℕ) (t k end : ℕ) (P : Passed) → end ≤ k → m.book ≡ b → open_from (passed_of m) t (end - k) ≡ P → m ≡ mem P.list P.notes b P.st
 unfolding open_from
-open_end l n s t k end P h e = let q : end - k ≡ 0 = omega arith in rw q at e
+open_end m b t k end P h i e =
+    let q : end - k ≡ 0 = omega arith in
+    let p : passed_of m ≡ P = rw q at e in
+    rw (← i, ← p) refl
 
 -- powers of two
 pub pow_small : (k : ℕ) → k ≤ 31 → (0 < 2 ^ k) × (2 ^ k ≤ 2147483648)
@@ -137,6 +142,6 @@ unlink_step b b' L k end h e f =
     let q : end - k ≡ suc (end - (k + 1)) = omega arith in
     rw f (rw q at e)
 
-pub unlink_end : (b₀ b : List ℕ) (st : List ℕ) (k end : ℕ) → end ≡ known b₀ st → end ≤ k → unlink_from b k (end - k) ≡ unlink_from b₀ 0 end → b ≡ unlinked b₀ st
-unfolding unlink_from unlinked
-unlink_end b₀ b st k end r h e = let q : end - k ≡ 0 = omega arith in rw q at (e ∙ ap (λ (z : ℕ). unlink_from b₀ 0 z) r)
+pub unlink_end : (b L : List ℕ) (k end : ℕ) → end ≤ k → unlink_from b k (end - k) ≡ L → b ≡ L
+unfolding unlink_from
+unlink_end b L k end h e = let q : end - k ≡ 0 = omega arith in rw q at e

@@ -15,10 +15,11 @@ use Rattle.recorder.specs.Recorder.{unknown}
 use Rattle.recorder.specs.Word.{pick, both, either, word_of}
 use Rattle.recorder.specs.Ideal.{Rec, no_range}
 use Rattle.recorder.specs.Closing.{is_while, is_wend, is_start, is_one, is_end, is_for, is_next_of, round_up}
-use Rattle.recorder.specs.Mem.{put_rec, put_st, note_list, note_st, part, rec_of, set_b, at_rec, link_at, while_list, while_top, whiles_from, top_from, Passed, passed, open_step, open_from, present, patch_whiles, rewrite, no_op_at, whole_at, delay_at, stepped_at, delayed_at, stepped_delayed_at, delay_list, delays_from, convert_delays, clean_up_all}
+use Rattle.recorder.specs.Mem.{Mem, mem, put, known, unlink_from, unlinked, clean_up, put_rec, put_st, note_list, note_st, part, rec_of, set_b, at_rec, link_at, while_list, while_top, whiles_from, top_from, Passed, passed, open_step, open_from, present, patch_whiles, rewrite, no_op_at, whole_at, delay_at, stepped_at, delayed_at, stepped_delayed_at, delay_list, delays_from, convert_delays, clean_up_all}
 use Rattle.recorder.proofs.Words.{head_kind}
 use Rattle.recorder.proofs.Bools.{never, both_left, both_right}
 use Rattle.recorder.proofs.Laws.{note_same}
+use Rattle.closing.specs.Parts.{with_passed}
 use Rattle.closing.proofs.ClosingLaws.{at_beyond, while_other}
 
 -- a record written, word by word
@@ -481,15 +482,25 @@ loop-other l top k c e f g =
     rw (no_delay l k (λ z. f (e ∙ z))) (while_other l top k c false e (λ z. g (inr z)) (rw (ne_eqb (rec_of l k).call 2 n)) refl)
 
 -- the pass, the WHILEs left open, End
-pub clean_done : (l l1 l2 l3 n n2 : List ℕ) (s s2 s3 : List ℕ) (k top : ℕ) → k ≡ present l s → (l1 ≡ delays_from (whiles_from l 0 0 k) 0 k) × (top ≡ top_from l 0 0 k) → passed l2 n2 s2 ≡ open_from (passed l1 n s) top k
-    → (l3 ≡ put_rec l2 s2 2 no_range 17 0 0) × (s3 ≡ put_st l2 s2) → passed l3 n2 s3 ≡ clean_up_all l n s
+abbrev ended : Passed → Passed
+ended p = passed (put_rec p.list p.st 2 no_range 17 0 0) p.notes (put_st p.list p.st)
+
+passes_done : (l l1 n : List ℕ) (s : List ℕ) (k top : ℕ) → k ≡ present l s → (l1 ≡ delays_from (whiles_from l 0 0 k) 0 k) × (top ≡ top_from l 0 0 k)
+    → ended (open_from (passed l1 n s) top k) ≡ clean_up_all l n s
 unfolding clean_up_all patch_whiles convert_delays
-clean_done l l1 l2 l3 n n2 s s2 s3 k top e f g h =
+passes_done l l1 n s k top e f =
     let c = opens_all k l 0 0 none (omega arith) in
     let L = whiles_long k l 0 0 in
     let P = open_from (passed (whiles_from l 0 0 k) n s) (top_from l 0 0 k) k in
     let t : open_from (passed (delays_from (whiles_from l 0 0 k) 0 k) n s) (top_from l 0 0 k) k ≡ passed (delays_from P.list 0 k) P.notes P.st =
     open_commutes (λ (m : List ℕ). delays_from m 0 k) (keeps_delays k 0) k (whiles_from l 0 0 k) n s c.0 (omega (arith, c.1)) in
-    let q : passed l2 n2 s2 ≡ passed (delays_from P.list 0 k) P.notes P.st = g ∙ rw (f.0, f.1) t in
+    let q : open_from (passed l1 n s) top k ≡ passed (delays_from P.list 0 k) P.notes P.st = rw (f.0, f.1) t in
     let x : present P.list P.st ≡ k = open_present k (whiles_from l 0 0 k) n s (top_from l 0 0 k) ∙ rw L (sym e) in
-    rw (← e, x, h.0, h.1) (ap (λ (p : Passed). passed (put_rec p.list p.st 2 no_range 17 0 0) p.notes (put_st p.list p.st)) q)
+    ap ended q ∙ rw (← e, x) refl
+
+-- the whole, the names' links gone
+pub clean_done : (m m2 m3 : Mem) (b l1 : List ℕ) (end k top : ℕ) → end ≡ known m.book m.st → b ≡ unlink_from m.book 0 end → k ≡ present m.list m.st
+    → (l1 ≡ delays_from (whiles_from m.list 0 0 k) 0 k) × (top ≡ top_from m.list 0 0 k) → m2 ≡ with_passed (mem l1 m.notes b m.st) (open_from (passed l1 m.notes m.st) top k)
+    → m3 ≡ put m2 2 no_range 17 0 0 → m3 ≡ clean_up m
+unfolding unlinked
+clean_done m m2 m3 b l1 end k top r e i f g h = h ∙ ap (λ (x : Mem). put x 2 no_range 17 0 0) g ∙ rw (e, r) (ap (λ (p : Passed). mem p.list p.notes (unlink_from m.book 0 (known m.book m.st)) p.st) (passes_done m.list l1 m.notes m.st k top i f))

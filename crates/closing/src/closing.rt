@@ -1,15 +1,24 @@
 // Closing up what is the recorder's: the WHILEs, the delays, End.
-ghost use Rattle.std.specs.Prelude.{◌≡◌, ◌+◌, ◌*◌, ◌≤◌, ◌<◌, min, get_or};
-ghost use Rattle.recorder.specs.Word.{word_of};
+ghost use Rattle.std.specs.Prelude.{◌≡◌, ◌+◌, ◌*◌, ◌≤◌, ◌<◌, min, get_or, eqb};
+ghost use Rattle.recorder.specs.Word.{word_of, flag_of};
 ghost use Rattle.recorder.specs.Closing.{is_wend, is_zero, is_one, is_start, is_end, is_for, is_next_of, round_up};
 ghost use Rattle.recorder.specs.Layout.{rec_size, range_word_at, most_records};
-ghost use Rattle.recorder.specs.Mem.{note_list, note_st, rec_of, set_b, at_rec, while_list, while_top, whiles_from, top_from, passed, open_from, set_head, rewrite, unit_of, whole_at, delay_at, stepped_at, delayed_at, stepped_delayed_at, delay_list, delays_from, clean_up_all, sigil_of, unlink_at, unlinked};
+ghost use Rattle.recorder.specs.CodeGen.{mem_of, SameLoans};
+ghost use Rattle.closing.specs.Parts.{passed_of, with_passed};
+ghost use Rattle.recorder.specs.Mem.{put_note, rec_of, set_b, at_rec, while_list, while_top, whiles_from, top_from, open_from, set_head, rewrite, unit_of, whole_at, delay_at, stepped_at, delayed_at, stepped_delayed_at, delay_list, delays_from, clean_up, sigil_of, unlink_at, unlink_from, unlinked};
 
+use recorder::call::{Call, Class, FOR, NEXT, NO_OP, NUMBER, OP, UNKNOWN, VAR, WHILE};
 use recorder::codegen::{
-    A, B, ENTRIES, ENTRY, EXTRA, RANGE, RECORD, RECORDS, St, most_records, put, put_note, set_a,
-    set_b, set_c,
+    A, B, C, CodeGen, ENTRY, EXTRA, RANGE, RECORD, RECORDS, most_records, set_at,
 };
 use recorder::word::{Range, kind_at, word_at, word_of};
+
+// The statements End, WEND and SLEEP.
+const END: u32 = 17;
+
+const WEND: u32 = 62;
+
+const SLEEP: u32 = 65;
 
 // A number: m × 2^(e−160), zero at e 0.
 #[derive(Clone, Copy)]
@@ -22,6 +31,12 @@ pub fn call_of(list: &[u32], k: u32) -> u32
     ensures { result ≡ (rec_of list.now k).call }
 {
     kind_at(list, RECORD * (k as usize))
+}
+
+fn is_call(list: &[u32], k: u32, call: u8) -> bool
+    ensures { result ≡ eqb (rec_of list.now k).call call }
+{
+    call_of(list, k) == u32::from(call)
 }
 
 fn a_of(list: &[u32], k: u32) -> u32
@@ -50,14 +65,14 @@ fn set_b_at(list: &mut [u32], k: u32, v: u32)
     let i = k as usize;
     if i < list.len() / RECORD {
         let from = RECORD * i;
-        set_b(&mut list[from..], v);
+        set_at(&mut list[from..], B, v);
     }
 }
 
 fn is_wend(list: &[u32], k: u32) -> bool
     ensures { result ≡ is_wend (rec_of list.now k) }
 {
-    call_of(list, k) == 2 && a_of(list, k) == 62
+    is_call(list, k, OP) && a_of(list, k) == WEND
 }
 
 // The record at k of the pass over the WHILEs; returns the last that is open, plus 1.
@@ -66,7 +81,7 @@ fn while_step(list: &mut [u32], top: u32, k: u16) -> u32
     ensures { (list.new ≡ while_list list.old top k) × (result ≡ while_top list.old top k) }
 {
     let at = k as u32;
-    if call_of(list, at) == 25 {
+    if is_call(list, at, WHILE) {
         set_b_at(list, at, top);
         return at + 1;
     }
@@ -79,18 +94,27 @@ fn while_step(list: &mut [u32], top: u32, k: u16) -> u32
     link
 }
 
-// The note on a WHILE without WEND: its record's line and range.
-fn open_note(list: &[u32], notes: &mut [u32], st: &mut St, w: u32)
-    ensures { (notes.new ≡ note_list notes.old st.old (word_of 13 (get_or list.now (rec_size * w) 0)) (get_or list.now (rec_size * w + range_word_at) 0) 1) × (st.new ≡ note_st notes.old st.old) }
+// A word of the record at an address.
+fn record_word(code: &CodeGen, k: u32, i: u8) -> u32
+    ensures { result ≡ get_or code.now.list.now (rec_size * k + i) 0 }
 {
-    let from = RECORD * (w as usize);
-    let h = word_of(13, word_at(list, from));
-    put_note(notes, st, h, word_at(list, from + RANGE), 1)
+    word_at(code.list, RECORD * (k as usize) + i as usize)
+}
+
+// The note on a WHILE without WEND: its record's line and range.
+fn open_note(code: &mut CodeGen, w: u32)
+    ensures same { SameLoans code.old code.new }
+    ensures value { mem_of code.new ≡ put_note (mem_of code.old) (word_of 13 (get_or code.old.list.now (rec_size * w) 0)) (get_or code.old.list.now (rec_size * w + range_word_at) 0) 1 }
+{
+    let line = record_word(code, w, 0);
+    let range = record_word(code, w, RANGE as u8);
+    code.put_note(Class::WhileWithoutWend, line, range)
 }
 
 // The end of patch_while_instr of the Rust: a note on each WHILE left open, the last first.
-fn open_whiles(list: &mut [u32], notes: &mut [u32], st: &mut St, top: u32, n: u16)
-    ensures { passed list.new notes.new st.new ≡ open_from (passed list.old notes.old st.old) top n }
+fn open_whiles(code: &mut CodeGen, top: u32, n: u16)
+    ensures same { SameLoans code.old code.new }
+    ensures value { mem_of code.new ≡ with_passed (mem_of code.old) (open_from (passed_of (mem_of code.old)) top n) }
 {
     let mut t = top;
     for _ in 0..n {
@@ -98,9 +122,9 @@ fn open_whiles(list: &mut [u32], notes: &mut [u32], st: &mut St, top: u32, n: u1
             return;
         }
         let w = t - 1;
-        t = b_of(list, w);
-        open_note(list, notes, st, w);
-        set_b_at(list, w, u32::MAX);
+        t = record_word(code, w, B as u8);
+        open_note(code, w);
+        set_b_at(code.list, w, UNKNOWN);
     }
 }
 
@@ -118,9 +142,9 @@ fn rewrite_part(part: &mut [u32], call: u8, a: u32, b: u32, c: u32)
     ensures { part.new ≡ rewrite call a b c part.old }
 {
     set_head(part, call);
-    set_a(part, a);
-    set_b(part, b);
-    set_c(part, c);
+    set_at(part, A, a);
+    set_at(part, B, b);
+    set_at(part, C, c);
 }
 
 #[tactic(auto, unfolding(recorder::specs::Mem::at_rec, recorder::specs::Mem::part))]
@@ -176,22 +200,22 @@ pub fn round_up(e: u32, m: u32) -> Number
 fn whole_at(list: &mut [u32], k: u32)
     ensures { list.new ≡ whole_at list.old k }
 {
-    if call_of(list, k) == 3 {
+    if is_call(list, k, NUMBER) {
         let v = round_up(a_of(list, k), b_of(list, k));
-        rewrite_at(list, k, 3, v.e, v.m, 0);
+        rewrite_at(list, k, NUMBER, v.e, v.m, 0);
     }
 }
 
 fn is_zero(list: &[u32], k: u32) -> bool
     ensures { result ≡ is_zero (rec_of list.now k) }
 {
-    call_of(list, k) == 3 && a_of(list, k) == 0
+    is_call(list, k, NUMBER) && a_of(list, k) == 0
 }
 
 fn is_one(list: &[u32], k: u32) -> bool
     ensures { result ≡ is_one (rec_of list.now k) }
 {
-    call_of(list, k) == 3 && a_of(list, k) == 129 && b_of(list, k) == 2147483648
+    is_call(list, k, NUMBER) && a_of(list, k) == 129 && b_of(list, k) == 2147483648
 }
 
 fn is_start(list: &[u32], k: u32) -> bool
@@ -203,23 +227,24 @@ fn is_start(list: &[u32], k: u32) -> bool
 fn is_end(list: &[u32], k: u32) -> bool
     ensures { result ≡ is_end (rec_of list.now k) }
 {
-    match call_of(list, k) {
-        3 => 0 < a_of(list, k),
-        call => call == 5,
+    if is_call(list, k, NUMBER) {
+        0 < a_of(list, k)
+    } else {
+        is_call(list, k, VAR)
     }
 }
 
-fn is_for(list: &[u32], k: u32, step: u32) -> bool
-    ensures { result ≡ is_for step (rec_of list.now k) }
+fn is_for(list: &[u32], k: u32, step: bool) -> bool
+    ensures { result ≡ is_for (flag_of step) (rec_of list.now k) }
 {
-    call_of(list, k) == 23 && b_of(list, k) == step
+    is_call(list, k, FOR) && b_of(list, k) == u32::from(step)
 }
 
 fn is_next_of(list: &[u32], f: u32, k: u32) -> bool
     ensures { result ≡ is_next_of (rec_of list.now f) (rec_of list.now k) }
 {
     let a = a_of(list, k);
-    call_of(list, k) == 24 && (a == 0 || a - 1 == a_of(list, f))
+    is_call(list, k, NEXT) && (a == 0 || a - 1 == a_of(list, f))
 }
 
 #[tactic(auto, unfolding(recorder::specs::Mem::delay_at))]
@@ -229,7 +254,7 @@ fn is_delay(list: &[u32], at: u16) -> bool
     let k = at as u32;
     is_start(list, k)
         && is_end(list, k + 1)
-        && is_for(list, k + 2, 0)
+        && is_for(list, k + 2, false)
         && is_next_of(list, k + 2, k + 3)
 }
 
@@ -241,7 +266,7 @@ fn is_stepped_delay(list: &[u32], at: u16) -> bool
     is_start(list, k)
         && is_end(list, k + 1)
         && is_one(list, k + 2)
-        && is_for(list, k + 3, 1)
+        && is_for(list, k + 3, true)
         && is_next_of(list, k + 3, k + 4)
 }
 
@@ -251,10 +276,10 @@ fn make_delay(list: &mut [u32], at: u16)
     ensures { list.new ≡ delayed_at list.old at }
 {
     let k = at as u32;
-    rewrite_at(list, k, 1, 0, 0, 0);
+    rewrite_at(list, k, NO_OP, 0, 0, 0);
     whole_at(list, k + 1);
-    rewrite_at(list, k + 2, 2, 65, 1, 0);
-    rewrite_at(list, k + 3, 1, 0, 0, 0);
+    rewrite_at(list, k + 2, OP, SLEEP, 1, 0);
+    rewrite_at(list, k + 3, NO_OP, 0, 0, 0);
 }
 
 #[tactic(auto, unfolding(recorder::specs::Mem::stepped_delayed_at))]
@@ -262,11 +287,11 @@ fn make_stepped_delay(list: &mut [u32], at: u16)
     ensures { list.new ≡ stepped_delayed_at list.old at }
 {
     let k = at as u32;
-    rewrite_at(list, k, 1, 0, 0, 0);
+    rewrite_at(list, k, NO_OP, 0, 0, 0);
     whole_at(list, k + 1);
-    rewrite_at(list, k + 2, 1, 0, 0, 0);
-    rewrite_at(list, k + 3, 2, 65, 1, 0);
-    rewrite_at(list, k + 4, 1, 0, 0, 0);
+    rewrite_at(list, k + 2, NO_OP, 0, 0, 0);
+    rewrite_at(list, k + 3, OP, SLEEP, 1, 0);
+    rewrite_at(list, k + 4, NO_OP, 0, 0, 0);
 }
 
 #[tactic(auto, unfolding(recorder::specs::Mem::delay_list))]
@@ -284,12 +309,12 @@ fn delay_step(list: &mut [u32], at: u16)
 fn loop_step(list: &mut [u32], top: u32, k: u16) -> u32
     ensures { (list.new ≡ while_list (delay_list list.old k) top k) × (result ≡ while_top (delay_list list.old k) top k) }
 {
-    match call_of(list, k as u32) {
-        3 => {
+    match call_of(list, k as u32) as u8 {
+        NUMBER => {
             delay_step(list, k);
             top
         }
-        2 | 25 => while_step(list, top, k),
+        OP | WHILE => while_step(list, top, k),
         _ => top,
     }
 }
@@ -304,16 +329,6 @@ fn close_loops(list: &mut [u32], n: u16) -> u32
         top = loop_step(list, top, k);
     }
     top
-}
-
-// WHILEs, delays, and End on the last line.
-pub fn clean_up(list: &mut [u32], notes: &mut [u32], st: &mut St)
-    ensures { passed list.new notes.new st.new ≡ clean_up_all list.old notes.old st.old }
-{
-    let n = present_of(list.len(), st[RECORDS]);
-    let top = close_loops(list, n);
-    open_whiles(list, notes, st, top, n);
-    put(list, st, 2, Range { start: 0, end: 0 }, 17, 0, 0)
 }
 
 fn sigil_of(c: u32) -> u32
@@ -342,11 +357,23 @@ fn unlink_at(book: &mut [u32], k: usize)
 }
 
 // The book as document 01 has it: the names have no tags and are in no tree any more.
-pub fn unlink_names(book: &mut [u32], st: &St)
-    ensures { book.new ≡ unlinked book.old st.now }
+fn unlink_names(book: &mut [u32], known: usize)
+    ensures { book.new ≡ unlink_from book.old 0 known }
 {
-    let end = st[ENTRIES].min(book.len() / ENTRY);
-    for k in 0..end {
+    for k in 0..known {
         unlink_at(book, k);
     }
+}
+
+// The names, WHILEs, delays, and End on the last line.
+pub fn clean_up(code: &mut CodeGen)
+    ensures same { SameLoans code.old code.new }
+    ensures value { mem_of code.new ≡ clean_up (mem_of code.old) }
+{
+    let known = code.known();
+    unlink_names(code.book, known);
+    let n = present_of(code.list.len(), code.st[RECORDS]);
+    let top = close_loops(code.list, n);
+    open_whiles(code, top, n);
+    code.emit(Range { start: 0, end: 0 }, Call::Op(END, 0))
 }

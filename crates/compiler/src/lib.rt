@@ -3,13 +3,16 @@
 
 ghost use Rattle.std.specs.Prelude.{◌≡◌, ◌*◌, ◌<◌, length, replicate};
 ghost use Rattle.recorder.specs.Word.{payload_at};
-ghost use Rattle.recorder.specs.Mem.{mem};
+ghost use Rattle.recorder.specs.Mem.{mem, nothing};
+ghost use Rattle.recorder.specs.CodeGen.{mem_of, SameLoans};
 ghost use Rattle.sheet.specs.Check.{refusal_number, refusal_place};
 ghost use Rattle.rules.specs.Outcome.{lengths, refused, finished, sized, outcome};
 ghost use Rattle.rules.specs.MemAnswer.{mem_sized};
-ghost use Rattle.compiler.specs.Answered.{outcome_of};
+ghost use Rattle.compiler.specs.Answered.{outcome_of, outcome_in, lengths_in};
 
-use recorder::codegen::{BOOK_FULL, CELLS, ENTRIES, LIST_FULL, NOTES, NOTES_FULL, RECORDS, St};
+use recorder::codegen::{
+    BOOK_FULL, CELLS, CodeGen, ENTRIES, LIST_FULL, NOTES, NOTES_FULL, RECORDS, clear, most_records,
+};
 use sheet::form::Refusal;
 
 // How many records, notes and book entries a sheet makes.
@@ -22,69 +25,72 @@ pub struct Sizes {
 
 pub type Answer = Result<Sizes, Refusal>;
 
-// A refusal leaves nothing but zeros.
-fn refuse(
-    list: &mut [u32],
-    notes: &mut [u32],
-    book: &mut [u32],
-    work: &mut [u32],
-    refusal: Refusal,
-) -> Answer
-    ensures { outcome_of result list.new notes.new book.new work.new ≡ refused (refusal_number refusal) (refusal_place refusal) (lengths (length list.old) (length notes.old) (length book.old) (length work.old)) }
+// Zeros throughout.
+fn clear_all(code: &mut CodeGen, work: &mut [u32])
+    ensures same { SameLoans code.old code.new }
+    ensures value { mem_of code.new ≡ mem (replicate (length code.old.list.now) 0) (replicate (length code.old.notes.now) 0) (replicate (length code.old.book.now) 0) code.old.st }
+    ensures work { work.new ≡ replicate (length work.old) 0 }
 {
-    recorder::codegen::clear(list);
-    recorder::codegen::clear(notes);
-    recorder::codegen::clear(book);
-    recorder::codegen::clear(work);
+    clear(code.list);
+    clear(code.notes);
+    clear(code.book);
+    clear(work);
+}
+
+// A refusal leaves nothing but zeros.
+fn refuse(code: &mut CodeGen, work: &mut [u32], refusal: Refusal) -> Answer
+    ensures same { SameLoans code.old code.new }
+    ensures value { outcome_in result code.new work.new ≡ refused (refusal_number refusal) (refusal_place refusal) (lengths_in code.old work.old) }
+{
+    clear_all(code, work);
     Err(refusal)
 }
 
 // Closed up, with all records in the list: do notes and book fit, too?
-fn sized_up(
-    list: &mut [u32],
-    notes: &mut [u32],
-    book: &mut [u32],
-    work: &mut [u32],
-    st: &St,
-) -> Answer
-    ensures { outcome_of result list.new notes.new book.new work.new ≡ mem_sized (lengths (length list.old) (length notes.old) (length book.old) (length work.old)) (mem list.old notes.old book.old st.now) }
+fn sized_up(code: &mut CodeGen, work: &mut [u32]) -> Answer
+    ensures same { SameLoans code.old code.new }
+    ensures value { outcome_in result code.new work.new ≡ mem_sized (lengths_in code.old work.old) (mem_of code.old) }
 {
-    if 0 < st[NOTES_FULL] {
-        return refuse(list, notes, book, work, Refusal::NotesTooShort);
+    if 0 < code.st[NOTES_FULL] {
+        return refuse(code, work, Refusal::NotesTooShort);
     }
-    if 0 < st[BOOK_FULL] {
-        return refuse(list, notes, book, work, Refusal::BookTooShort);
+    if 0 < code.st[BOOK_FULL] {
+        return refuse(code, work, Refusal::BookTooShort);
     }
-    recorder::codegen::clear(work);
-    let end = recorder::codegen::current_addr(st);
+    clear(work);
     Ok(Sizes {
-        records: end.0,
-        notes: st[NOTES],
-        entries: st[ENTRIES],
+        records: code.current_addr().0,
+        notes: code.st[NOTES],
+        entries: code.st[ENTRIES],
     })
 }
 
-// A sheet whose form is good, with zeros lent, and three words of work for each line and one more.
-fn compile_accepted(
-    sheet: &[u32],
-    text: &[u16],
-    list: &mut [u32],
-    notes: &mut [u32],
-    book: &mut [u32],
-    work: &mut [u32],
-) -> Answer
-    ensures { list.old ≡ replicate (length list.old) 0 → notes.old ≡ replicate (length notes.old) 0 → book.old ≡ replicate (length book.old) 0 → work.old ≡ replicate (length work.old) 0 → 3 * payload_at sheet.now 0 < length work.old → payload_at sheet.now 0 < 65536 → outcome_of result list.new notes.new book.new work.new ≡ sized (finished sheet.now text.now) (lengths (length list.old) (length notes.old) (length book.old) (length work.old)) }
+// A sheet whose form is good, with three words of work for each line and one more.
+fn compile_accepted(sheet: &[u32], text: &[u16], code: &mut CodeGen, work: &mut [u32]) -> Answer
+    ensures same { SameLoans code.old code.new }
+    ensures value { code.old.st ≡ nothing → 3 * payload_at sheet.now 0 < length work.old → payload_at sheet.now 0 < 65536 → outcome_in result code.new work.new ≡ sized (finished sheet.now text.now) (lengths_in code.old work.old) }
 {
-    let mut st: St = [0; CELLS];
-    let n = program::line::compile_prog(sheet, text, list, notes, book, work, &mut st);
-    if 0 < st[LIST_FULL] {
-        return refuse(list, notes, book, work, Refusal::ListTooShort);
+    clear_all(code, work);
+    let n = program::line::compile_prog(sheet, text, code, work);
+    if 0 < code.st[LIST_FULL] {
+        return refuse(code, work, Refusal::ListTooShort);
     }
-    if recorder::codegen::most_records(list.len()) <= st[RECORDS] {
-        return refuse(list, notes, book, work, Refusal::ListTooShort);
+    if most_records(code.list.len()) <= code.st[RECORDS] {
+        return refuse(code, work, Refusal::ListTooShort);
     }
-    resolution::resolve::close_up(list, notes, book, work, &mut st, n);
-    sized_up(list, notes, book, work, &st)
+    resolution::resolve::close_up(code, work, n);
+    sized_up(code, work)
+}
+
+// The sheet checked, and compiled where its form is good.
+fn compile_checked(sheet: &[u32], text: &[u16], code: &mut CodeGen, work: &mut [u32]) -> Answer
+    ensures same { SameLoans code.old code.new }
+    ensures value { code.old.st ≡ nothing → outcome_in result code.new work.new ≡ outcome sheet.now text.now (lengths_in code.old work.old) }
+{
+    match acceptance::check(sheet, text, work.len()) {
+        Ok(()) => compile_accepted(sheet, text, code, work),
+        Err(refusal) => refuse(code, work, refusal),
+    }
 }
 
 // A call on whichever words, text and lent memory leaves what document 01's rules say: the finished list, notes and book with
@@ -99,12 +105,13 @@ pub fn compile(
 ) -> Answer
     ensures { outcome_of result list.new notes.new book.new work.new ≡ outcome sheet.now text.now (lengths (length list.old) (length notes.old) (length book.old) (length work.old)) }
 {
-    if let Err(refusal) = acceptance::check(sheet, text, work.len()) {
-        return refuse(list, notes, book, work, refusal);
-    }
-    recorder::codegen::clear(list);
-    recorder::codegen::clear(notes);
-    recorder::codegen::clear(book);
-    recorder::codegen::clear(work);
-    compile_accepted(sheet, text, list, notes, book, work)
+    let mut code = CodeGen {
+        list,
+        notes,
+        book,
+        st: [0; CELLS],
+    };
+    let answer = compile_checked(sheet, text, &mut code, work);
+    let CodeGen { .. } = code;
+    answer
 }

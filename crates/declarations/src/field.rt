@@ -1,91 +1,38 @@
 // FIELD: its file number stands first in the sheet and is compiled last.
 ghost use Rattle.std.specs.Prelude.{ℕ};
-ghost use Rattle.recorder.specs.Mem.{mem};
+ghost use Rattle.recorder.specs.CodeGen.{mem_of, SameLoans};
 ghost use Rattle.sheet.specs.declared.form.Shape.TheVariants.{Field};
 ghost use Rattle.expressions.specs.Body.{Body};
 ghost use Rattle.declarations.specs.Parts.{FieldsDone};
 
-use recorder::codegen::St;
+use nodes::source::Source;
+use recorder::call::Call;
+use recorder::codegen::CodeGen;
 use recorder::word::Range;
 use rules::types::Type;
 
 // So many fields: a length and a text's place each.
-fn field_each(
-    sheet: &&[u32],
-    text: &&[u16],
-    list: &mut [u32],
-    notes: &mut [u32],
-    book: &mut [u32],
-    st: &mut St,
-    base: u32,
-    at: usize,
-    n: u32,
-    left: usize,
-) -> usize
-    ensures { FieldsDone sheet.now.now text.now.now base left at n (mem list.old notes.old book.old st.old) (mem list.new notes.new book.new st.new) result }
+fn field_each(src: &Source, code: &mut CodeGen, at: usize, n: u32, left: usize) -> usize
+    ensures same { SameLoans code.old code.new }
+    ensures value { FieldsDone src.now.sheet.now src.now.text.now src.now.base left at n (mem_of code.old) (mem_of code.new) result }
 {
     let mut p = at;
     for _ in 0..n {
-        let x = expressions::expr::compile_typed(
-            sheet,
-            text,
-            list,
-            notes,
-            book,
-            st,
-            base,
-            p,
-            left,
-            Type::Real,
-        );
-        let y = expressions::expr::place_typed(
-            sheet,
-            text,
-            list,
-            notes,
-            book,
-            st,
-            base,
-            x,
-            left,
-            Type::String,
-        );
+        let x = expressions::expr::compile_typed(src, code, p, left, Type::Real);
+        let y = expressions::expr::place_typed(src, code, x, left, Type::String);
         p = y;
     }
     p
 }
 
-pub fn compile_field(
-    sheet: &&[u32],
-    text: &&[u16],
-    list: &mut [u32],
-    notes: &mut [u32],
-    book: &mut [u32],
-    st: &mut St,
-    base: u32,
-    at: usize,
-    left: usize,
-    r: Range,
-) -> usize
-    ensures { (k : ℕ) → Body sheet.now.now text.now.now base left Field k r at (mem list.old notes.old book.old st.old) (mem list.new notes.new book.new st.new) result }
+pub fn compile_field(src: &Source, code: &mut CodeGen, at: usize, left: usize, r: Range) -> usize
+    ensures same { SameLoans code.old code.new }
+    ensures value { (k : ℕ) → Body src.now.sheet.now src.now.text.now src.now.base left Field k r at (mem_of code.old) (mem_of code.new) result }
 {
-    let p = walk::stmt::skip_expr(*sheet, at, left);
-    let c = expressions::expr::read_payload(*sheet, p);
-    let x = field_each(
-        sheet, text, list, notes, book, st, base, c.at, c.value, left,
-    );
-    let y = expressions::expr::compile_typed(
-        sheet,
-        text,
-        list,
-        notes,
-        book,
-        st,
-        base,
-        at,
-        left,
-        Type::Real,
-    );
-    recorder::codegen::emit_field(list, st, r, c.value);
+    let p = walk::stmt::skip_expr(src.sheet, at, left);
+    let c = expressions::expr::read_payload(src.sheet, p);
+    let x = field_each(src, code, c.at, c.value, left);
+    let y = expressions::expr::compile_typed(src, code, at, left, Type::Real);
+    code.emit(r, Call::Field(c.value));
     x
 }

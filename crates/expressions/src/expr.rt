@@ -1,12 +1,14 @@
 // compile_expr of compiler.rs: an expression and its list of arguments call each other; the remaining depth falls. Here and in the
 // statements sheet and text are passed on as `&&`, one register each, and a number returned is the place behind.
 ghost use Rattle.std.specs.Prelude.{◌≡◌};
-ghost use Rattle.recorder.specs.Mem.{mem};
+ghost use Rattle.recorder.specs.CodeGen.{mem_of, SameLoans};
 ghost use Rattle.recorder.specs.Word.{range_at, next};
 ghost use Rattle.sheet.specs.Tree.{mantissa_at};
 ghost use Rattle.nodes.specs.Compiled.{Compiled, CompiledArgs, CompiledTyped, CompiledPlace, PlaceTyped, OpAt, PayloadAt};
 
-use recorder::codegen::St;
+use nodes::source::Source;
+use recorder::call::Call;
+use recorder::codegen::CodeGen;
 use recorder::word::Range;
 use rules::tables::Wants;
 use rules::types::Type;
@@ -71,18 +73,9 @@ fn mantissa_at(sheet: &[u32], at: usize) -> u32
 }
 
 #[cycle(expr_cycle)]
-pub fn compile_expr(
-    sheet: &&[u32],
-    text: &&[u16],
-    list: &mut [u32],
-    notes: &mut [u32],
-    book: &mut [u32],
-    st: &mut St,
-    base: u32,
-    at: usize,
-    left: usize,
-) -> TypedBehind
-    ensures { Compiled sheet.now.now text.now.now base left at (mem list.old notes.old book.old st.old) (mem list.new notes.new book.new st.new) result.at result.ty }
+pub fn compile_expr(src: &Source, code: &mut CodeGen, at: usize, left: usize) -> TypedBehind
+    ensures same { SameLoans code.old code.new }
+    ensures value { Compiled src.now.sheet.now src.now.text.now src.now.base left at (mem_of code.old) (mem_of code.new) result.at result.ty }
 {
     if left == 0 {
         return TypedBehind {
@@ -90,106 +83,82 @@ pub fn compile_expr(
             ty: Type::Error,
         };
     }
-    let k = recorder::word::payload_at(*sheet, at);
-    let r = node_range(*sheet, at);
-    let p = recorder::word::behind(*sheet, recorder::word::behind(*sheet, at));
+    let k = recorder::word::payload_at(src.sheet, at);
+    let r = node_range(src.sheet, at);
+    let p = recorder::word::behind(src.sheet, recorder::word::behind(src.sheet, at));
     match k {
         0 => {
-            let ty = nodes::node::var_node(*text, list, notes, book, st, base, r);
+            let ty = nodes::node::var_node(src, code, r);
             TypedBehind { at: p, ty }
         }
         1 => {
-            nodes::node::text_node(*text, list, notes, st, base, r);
+            nodes::node::text_node(src, code, r);
             TypedBehind {
                 at: p,
                 ty: Type::String,
             }
         }
         2 => {
-            let e = read_payload(*sheet, p);
-            let m = mantissa_at(*sheet, e.at);
-            let q = recorder::word::behind(*sheet, recorder::word::behind(*sheet, e.at));
-            nodes::node::number_node(list, notes, st, r, e.value, m);
+            let e = read_payload(src.sheet, p);
+            let m = mantissa_at(src.sheet, e.at);
+            let q = recorder::word::behind(src.sheet, recorder::word::behind(src.sheet, e.at));
+            nodes::node::number_node(code, r, e.value, m);
             TypedBehind {
                 at: q,
                 ty: Type::Real,
             }
         }
         3 => {
-            let f = op_at(*sheet, p);
+            let f = op_at(src.sheet, p);
             let fr = f.range;
-            let c = read_payload(*sheet, f.at);
-            nodes::node::func_notes(notes, st, f.kind, c.value, fr, r);
-            let x = compile_args(
-                sheet,
-                text,
-                list,
-                notes,
-                book,
-                st,
-                base,
-                c.at,
-                c.value,
-                Wants::Func(f.kind),
-                left - 1,
-            );
-            let ty = nodes::node::func_node(list, st, f.kind, c.value, r);
+            let c = read_payload(src.sheet, f.at);
+            nodes::node::func_notes(code, f.kind, c.value, fr, r);
+            let x = compile_args(src, code, c.at, c.value, Wants::Func(f.kind), left - 1);
+            let ty = nodes::node::func_node(code, f.kind, c.value, r);
             TypedBehind { at: x, ty }
         }
         4 => {
-            let o = nodes::node::opt_range_at(*sheet, p);
-            let q = recorder::word::behind(*sheet, p);
-            let y = nodes::node::opt_real_sym(*text, notes, book, st, base, o);
-            let x = compile_expr(sheet, text, list, notes, book, st, base, q, left - 1);
+            let o = nodes::node::opt_range_at(src.sheet, p);
+            let q = recorder::word::behind(src.sheet, p);
+            let y = nodes::node::opt_real_sym(src, code, o);
+            let x = compile_expr(src, code, q, left - 1);
             let xt = x.ty;
-            nodes::node::check_type(notes, st, Type::Real, node_range(*sheet, q), xt);
-            nodes::node::user_call(list, st, o, r, y);
+            nodes::node::check_type(code, Type::Real, node_range(src.sheet, q), xt);
+            nodes::node::user_call(code, o, r, y);
             TypedBehind {
                 at: x.at,
                 ty: Type::Real,
             }
         }
         5 => {
-            let x = compile_expr(sheet, text, list, notes, book, st, base, p, left - 1);
+            let x = compile_expr(src, code, p, left - 1);
             let xt = x.ty;
-            let o = op_at(*sheet, x.at);
+            let o = op_at(src.sheet, x.at);
             let or = o.range;
-            let y = compile_expr(sheet, text, list, notes, book, st, base, o.at, left - 1);
+            let y = compile_expr(src, code, o.at, left - 1);
             let yt = y.ty;
-            let ar = node_range(*sheet, p);
-            let br = node_range(*sheet, o.at);
-            let ty = nodes::node::binary_node(list, notes, st, o.kind, r, ar, or, br, xt, yt);
+            let ar = node_range(src.sheet, p);
+            let br = node_range(src.sheet, o.at);
+            let ty = nodes::node::binary_node(code, o.kind, r, ar, or, br, xt, yt);
             TypedBehind { at: y.at, ty }
         }
         6 => {
-            let o = op_at(*sheet, p);
-            let x = compile_expr(sheet, text, list, notes, book, st, base, o.at, left - 1);
+            let o = op_at(src.sheet, p);
+            let x = compile_expr(src, code, o.at, left - 1);
             let xt = x.ty;
-            let ar = node_range(*sheet, o.at);
-            let ty = nodes::node::unary_node(list, notes, st, o.kind, r, ar, xt);
+            let ar = node_range(src.sheet, o.at);
+            let ty = nodes::node::unary_node(code, o.kind, r, ar, xt);
             TypedBehind { at: x.at, ty }
         }
         7 => {
-            let o = nodes::node::opt_range_at(*sheet, p);
-            let c = read_payload(*sheet, recorder::word::behind(*sheet, p));
-            let x = compile_args(
-                sheet,
-                text,
-                list,
-                notes,
-                book,
-                st,
-                base,
-                c.at,
-                c.value,
-                Wants::Every,
-                left - 1,
-            );
-            let ty = nodes::node::index_node(*text, list, notes, book, st, base, o, r, c.value);
+            let o = nodes::node::opt_range_at(src.sheet, p);
+            let c = read_payload(src.sheet, recorder::word::behind(src.sheet, p));
+            let x = compile_args(src, code, c.at, c.value, Wants::Every, left - 1);
+            let ty = nodes::node::index_node(src, code, o, r, c.value);
             TypedBehind { at: x, ty }
         }
         8 => {
-            recorder::codegen::emit_inkey(list, st, r);
+            code.emit(r, Call::Inkey);
             TypedBehind {
                 at: p,
                 ty: Type::String,
@@ -205,67 +174,44 @@ pub fn compile_expr(
 // So many expressions, each with a note where its kind is not the one wanted.
 #[cycle(expr_cycle)]
 pub fn compile_args(
-    sheet: &&[u32],
-    text: &&[u16],
-    list: &mut [u32],
-    notes: &mut [u32],
-    book: &mut [u32],
-    st: &mut St,
-    base: u32,
+    src: &Source,
+    code: &mut CodeGen,
     at: usize,
     n: u32,
     wants: Wants,
     left: usize,
 ) -> usize
-    ensures { CompiledArgs sheet.now.now text.now.now base left at n wants (mem list.old notes.old book.old st.old) (mem list.new notes.new book.new st.new) result }
+    ensures same { SameLoans code.old code.new }
+    ensures value { CompiledArgs src.now.sheet.now src.now.text.now src.now.base left at n wants (mem_of code.old) (mem_of code.new) result }
 {
     let mut p = at;
     for i in 0..n {
-        let x = compile_expr(sheet, text, list, notes, book, st, base, p, left);
+        let x = compile_expr(src, code, p, left);
         let xt = x.ty;
         let w = wants.want(i);
-        nodes::node::check_type(notes, st, w, node_range(*sheet, p), xt);
+        nodes::node::check_type(code, w, node_range(src.sheet, p), xt);
         p = x.at;
     }
     p
 }
 
 // An expression of which a kind is wanted.
-pub fn compile_typed(
-    sheet: &&[u32],
-    text: &&[u16],
-    list: &mut [u32],
-    notes: &mut [u32],
-    book: &mut [u32],
-    st: &mut St,
-    base: u32,
-    at: usize,
-    left: usize,
-    want: Type,
-) -> usize
-    ensures { CompiledTyped sheet.now.now text.now.now base left at want (mem list.old notes.old book.old st.old) (mem list.new notes.new book.new st.new) result }
+pub fn compile_typed(src: &Source, code: &mut CodeGen, at: usize, left: usize, want: Type) -> usize
+    ensures same { SameLoans code.old code.new }
+    ensures value { CompiledTyped src.now.sheet.now src.now.text.now src.now.base left at want (mem_of code.old) (mem_of code.new) result }
 {
-    let x = compile_expr(sheet, text, list, notes, book, st, base, at, left);
+    let x = compile_expr(src, code, at, left);
     let xt = x.ty;
-    let r = node_range(*sheet, at);
-    nodes::node::check_type(notes, st, want, r, xt);
+    let r = node_range(src.sheet, at);
+    nodes::node::check_type(code, want, r, xt);
     x.at
 }
 
 // compile_lvalue: a place to store, which is a variable or an array's element; anything else makes nothing.
 #[tactic(auto, using(crate::proofs::ExprLaws::head, crate::proofs::ExprLaws::place_other))]
-pub fn compile_lvalue(
-    sheet: &&[u32],
-    text: &&[u16],
-    list: &mut [u32],
-    notes: &mut [u32],
-    book: &mut [u32],
-    st: &mut St,
-    base: u32,
-    at: usize,
-    left: usize,
-) -> TypedBehind
-    ensures { CompiledPlace sheet.now.now text.now.now base left at (mem list.old notes.old book.old st.old) (mem list.new notes.new book.new st.new) result.at result.ty }
+pub fn compile_lvalue(src: &Source, code: &mut CodeGen, at: usize, left: usize) -> TypedBehind
+    ensures same { SameLoans code.old code.new }
+    ensures value { CompiledPlace src.now.sheet.now src.now.text.now src.now.base left at (mem_of code.old) (mem_of code.new) result.at result.ty }
 {
     if left == 0 {
         return TypedBehind {
@@ -273,58 +219,36 @@ pub fn compile_lvalue(
             ty: Type::Error,
         };
     }
-    let k = recorder::word::payload_at(*sheet, at);
-    let r = node_range(*sheet, at);
-    let p = recorder::word::behind(*sheet, recorder::word::behind(*sheet, at));
+    let k = recorder::word::payload_at(src.sheet, at);
+    let r = node_range(src.sheet, at);
+    let p = recorder::word::behind(src.sheet, recorder::word::behind(src.sheet, at));
     match k {
         0 => {
-            let ty = nodes::node::var_place(*text, list, notes, book, st, base, r);
+            let ty = nodes::node::var_place(src, code, r);
             TypedBehind { at: p, ty }
         }
         7 => {
-            let o = nodes::node::opt_range_at(*sheet, p);
-            let c = read_payload(*sheet, recorder::word::behind(*sheet, p));
-            let x = compile_args(
-                sheet,
-                text,
-                list,
-                notes,
-                book,
-                st,
-                base,
-                c.at,
-                c.value,
-                Wants::Every,
-                left - 1,
-            );
-            let ty = nodes::node::index_place(*text, list, notes, book, st, base, o, c.value);
+            let o = nodes::node::opt_range_at(src.sheet, p);
+            let c = read_payload(src.sheet, recorder::word::behind(src.sheet, p));
+            let x = compile_args(src, code, c.at, c.value, Wants::Every, left - 1);
+            let ty = nodes::node::index_place(src, code, o, c.value);
             TypedBehind { at: x, ty }
         }
         _ => TypedBehind {
-            at: walk::stmt::skip_expr(*sheet, at, left),
+            at: walk::stmt::skip_expr(src.sheet, at, left),
             ty: Type::Error,
         },
     }
 }
 
 // A place to store of which a kind is wanted.
-pub fn place_typed(
-    sheet: &&[u32],
-    text: &&[u16],
-    list: &mut [u32],
-    notes: &mut [u32],
-    book: &mut [u32],
-    st: &mut St,
-    base: u32,
-    at: usize,
-    left: usize,
-    want: Type,
-) -> usize
-    ensures { PlaceTyped sheet.now.now text.now.now base left at want (mem list.old notes.old book.old st.old) (mem list.new notes.new book.new st.new) result }
+pub fn place_typed(src: &Source, code: &mut CodeGen, at: usize, left: usize, want: Type) -> usize
+    ensures same { SameLoans code.old code.new }
+    ensures value { PlaceTyped src.now.sheet.now src.now.text.now src.now.base left at want (mem_of code.old) (mem_of code.new) result }
 {
-    let x = compile_lvalue(sheet, text, list, notes, book, st, base, at, left);
+    let x = compile_lvalue(src, code, at, left);
     let xt = x.ty;
-    let r = node_range(*sheet, at);
-    nodes::node::check_type(notes, st, want, r, xt);
+    let r = node_range(src.sheet, at);
+    nodes::node::check_type(code, want, r, xt);
     x.at
 }

@@ -1,16 +1,18 @@
 -- RESTORE, and the loops over the targets of ON.
 use mathlib.Core.Path.{◌≡◌, refl, ap, ◌∙◌}
-use mathlib.Core.List.{List, ◌∷◌}
+use mathlib.Core.List.{List, [], ◌∷◌}
+use mathlib.Core.Bool.{Bool, true, false}
+use lib.Dec.{eqb}
 use Prim.Native.Nat.{ℕ, zero, suc, ◌-◌, ◌≤◌, ◌<◌}
 use native.Mathlib.Omega.{arith}
 use Rattle.recorder.specs.declared.word.Range.{Range}
 use Rattle.recorder.specs.declared.label.Label.{Label}
-use Rattle.recorder.specs.Word.{range_at, label_at, next}
+use Rattle.recorder.specs.Word.{pick, range_at, label_at, next, flag_of}
 use Rattle.recorder.specs.Mem.{Mem, mem_r}
 use Rattle.sheet.specs.declared.form.Shape.TheVariants.{Restore}
 use Rattle.sheet.specs.Skip.{skip_repeat, skip_fields, skip_field, skip_times, skip_pair, skip_item}
 use Rattle.sheet.specs.Tree.{OnTarget, items_at, stmt_node, opt_at, target_at, behind_label, on_target_at}
-use Rattle.rules.specs.Stmt.{pending_jump, compile_restore, label_or0, on_jumps, compile_stmt}
+use Rattle.rules.specs.Stmt.{go_call, pending_jump, compile_restore, label_or0, on_jumps, compile_stmt}
 use Rattle.expressions.specs.Body.{Body}
 use Rattle.expressions.specs.Lists.{two_on}
 use Rattle.expressions.proofs.Lists.{items_step}
@@ -44,3 +46,16 @@ pub over_done : (s : List ℕ) (n k at at₀ : ℕ) → n ≤ 0 → skip_repeat 
 unfolding skip_repeat
 over_done s zero k at at₀ h p = p
 over_done s (suc n) k at at₀ h p = absurd (omega arith)
+
+-- whether an ON's jumps are GOSUB's is told by its number
+same_go : (n : ℕ) → go_call (flag_of (eqb n 1)) ≡ go_call n
+same_go n = go (eqb n 1)
+  where
+    go : (b : Bool) → ◌≡◌ {A = ℕ} (pick (eqb (flag_of b) 1) 21 20) (pick b 21 20)
+    go true = refl
+    go false = refl
+
+pub same_jumps : (t : List ℕ) (base n : ℕ) (gs : List OnTarget) (m : Mem) → on_jumps (mem_r t) t base (flag_of (eqb n 1)) gs m ≡ on_jumps (mem_r t) t base n gs m
+unfolding on_jumps
+same_jumps t base n [] m = refl
+same_jumps t base n (g ∷ gs) m = rw (same_go n) (same_jumps t base n gs (pending_jump (mem_r t) t base n g.range (label_or0 g.label) g.range m))

@@ -1,8 +1,9 @@
 // Statements with labels: GOSUB, GOTO, RESTORE and ON. A jump waits for its label.
 ghost use Rattle.std.specs.Prelude.{◌≡◌, List, ℕ};
-ghost use Rattle.recorder.specs.Word.{label_at};
+ghost use Rattle.recorder.specs.Word.{label_at, flag_of};
 ghost use Rattle.recorder.specs.Recorder.{pack};
-ghost use Rattle.recorder.specs.Mem.{mem, mem_r};
+ghost use Rattle.recorder.specs.Mem.{mem_r};
+ghost use Rattle.recorder.specs.CodeGen.{mem_of, SameLoans};
 ghost use Rattle.sheet.specs.Skip.{skip_repeat};
 ghost use Rattle.sheet.specs.Tree.{opt_at, target_at, behind_label};
 ghost use Rattle.rules.specs.Stmt.{pending_jump, compile_go, compile_restore, label_or0, on_jumps};
@@ -10,7 +11,9 @@ ghost use Rattle.expressions.specs.Body.{Body};
 ghost use Rattle.expressions.specs.Lists.{two_on};
 ghost use Rattle.jumps.specs.Parts.{target_of, label_of, on_targets_at};
 
-use recorder::codegen::St;
+use nodes::source::Source;
+use recorder::call::Call;
+use recorder::codegen::CodeGen;
 use recorder::label::Label;
 use recorder::word::Range;
 use rules::types::Type;
@@ -56,91 +59,99 @@ pub fn packed(r: Range) -> u32
     (r.start as u32) * 65536 + (r.end as u32)
 }
 
-// A jump that waits for its label; sub is 1 for GOSUB.
-fn pending_jump(list: &mut [u32], st: &mut St, sub: u32, r: Range, l: Label, lr: Range)
-    ensures { (t n b : List ℕ) (base : ℕ) → mem list.new n b st.new ≡ pending_jump (mem_r t) t base sub r l.0 lr (mem list.old n b st.old) }
+// A jump that waits for its label: GOSUB or GOTO.
+fn pending_jump(code: &mut CodeGen, sub: bool, r: Range, l: Label, lr: Range)
+    ensures same { SameLoans code.old code.new }
+    ensures value { (t : List ℕ) (base : ℕ) → mem_of code.new ≡ pending_jump (mem_r t) t base (flag_of sub) r l.0 lr (mem_of code.old) }
 {
     let w = packed(lr);
     let v = (l.0 as u32) + 1;
-    if sub == 1 {
-        recorder::codegen::emit_gosub(list, st, r, v, w)
+    if sub {
+        code.emit(r, Call::Gosub(v, w))
     } else {
-        recorder::codegen::emit_goto(list, st, r, v, w)
+        code.emit(r, Call::Goto(v, w))
     }
 }
 
 // An absent label is label 0, and a note on it has the statement's range.
-fn compile_go(list: &mut [u32], st: &mut St, r: Range, sub: u32, o: Option<(Range, Label)>)
-    ensures { (t n b : List ℕ) (base : ℕ) → mem list.new n b st.new ≡ compile_go (mem_r t) t base r sub (target_of o) (mem list.old n b st.old) }
+fn compile_go(code: &mut CodeGen, r: Range, sub: bool, o: Option<(Range, Label)>)
+    ensures same { SameLoans code.old code.new }
+    ensures value { (t : List ℕ) (base : ℕ) → mem_of code.new ≡ compile_go (mem_r t) t base r (flag_of sub) (target_of o) (mem_of code.old) }
 {
     let Some((lr, l)) = o else {
-        pending_jump(list, st, sub, r, Label(0), r);
+        pending_jump(code, sub, r, Label(0), r);
         return;
     };
-    pending_jump(list, st, sub, r, l, lr)
+    pending_jump(code, sub, r, l, lr)
 }
 
 #[tactic(auto, unfolding(sheet::specs::Tree::stmt_node, rules::specs::Stmt::compile_stmt, sheet::specs::Skip::skip_fields, sheet::specs::Skip::skip_field, sheet::specs::Skip::skip_times, sheet::specs::Skip::skip_pair, sheet::specs::Skip::skip_item))]
-pub fn compile_gosub(sheet: &&[u32], list: &mut [u32], st: &mut St, at: usize, r: Range) -> usize
-    ensures { (t n b : List ℕ) (base left k : ℕ) → Body sheet.now.now t base left Shape.GoSub k r at (mem list.old n b st.old) (mem list.new n b st.new) result }
+pub fn compile_gosub(src: &Source, code: &mut CodeGen, at: usize, r: Range) -> usize
+    ensures same { SameLoans code.old code.new }
+    ensures value { (t : List ℕ) (base left k : ℕ) → Body src.now.sheet.now t base left Shape.GoSub k r at (mem_of code.old) (mem_of code.new) result }
 {
-    let o = target_at(*sheet, at);
-    compile_go(list, st, r, 1, o);
-    behind_target(*sheet, at)
+    let o = target_at(src.sheet, at);
+    compile_go(code, r, true, o);
+    behind_target(src.sheet, at)
 }
 
 // Behind its flag, which says whether the word GOTO stands there.
 #[tactic(auto, unfolding(sheet::specs::Tree::stmt_node, rules::specs::Stmt::compile_stmt, sheet::specs::Skip::skip_fields, sheet::specs::Skip::skip_field, sheet::specs::Skip::skip_times, sheet::specs::Skip::skip_pair, sheet::specs::Skip::skip_item))]
-pub fn compile_goto(sheet: &&[u32], list: &mut [u32], st: &mut St, at: usize, r: Range) -> usize
-    ensures { (t n b : List ℕ) (base left k : ℕ) → Body sheet.now.now t base left Shape.GoTo k r at (mem list.old n b st.old) (mem list.new n b st.new) result }
+pub fn compile_goto(src: &Source, code: &mut CodeGen, at: usize, r: Range) -> usize
+    ensures same { SameLoans code.old code.new }
+    ensures value { (t : List ℕ) (base left k : ℕ) → Body src.now.sheet.now t base left Shape.GoTo k r at (mem_of code.old) (mem_of code.new) result }
 {
-    let p = recorder::word::behind(*sheet, at);
-    let o = target_at(*sheet, p);
-    compile_go(list, st, r, 0, o);
-    behind_target(*sheet, p)
+    let p = recorder::word::behind(src.sheet, at);
+    let o = target_at(src.sheet, p);
+    compile_go(code, r, false, o);
+    behind_target(src.sheet, p)
 }
 
-fn restore_node(list: &mut [u32], st: &mut St, r: Range, o: Option<(Range, Label)>)
-    ensures { (t n b : List ℕ) (base : ℕ) → mem list.new n b st.new ≡ compile_restore (mem_r t) t base r (target_of o) (mem list.old n b st.old) }
+fn restore_node(code: &mut CodeGen, r: Range, o: Option<(Range, Label)>)
+    ensures same { SameLoans code.old code.new }
+    ensures value { (t : List ℕ) (base : ℕ) → mem_of code.new ≡ compile_restore (mem_r t) t base r (target_of o) (mem_of code.old) }
 {
     let Some((lr, l)) = o else {
-        recorder::codegen::emit_restore(list, st, r, 0, 0);
+        code.emit(r, Call::Restore(0, 0));
         return;
     };
     let w = packed(lr);
     let v = (l.0 as u32) + 1;
-    recorder::codegen::emit_restore(list, st, r, v, w)
+    code.emit(r, Call::Restore(v, w))
 }
 
-pub fn compile_restore(sheet: &&[u32], list: &mut [u32], st: &mut St, at: usize, r: Range) -> usize
-    ensures { (t n b : List ℕ) (base left k : ℕ) → Body sheet.now.now t base left Shape.Restore k r at (mem list.old n b st.old) (mem list.new n b st.new) result }
+pub fn compile_restore(src: &Source, code: &mut CodeGen, at: usize, r: Range) -> usize
+    ensures same { SameLoans code.old code.new }
+    ensures value { (t : List ℕ) (base left k : ℕ) → Body src.now.sheet.now t base left Shape.Restore k r at (mem_of code.old) (mem_of code.new) result }
 {
-    let o = target_at(*sheet, at);
-    restore_node(list, st, r, o);
-    behind_target(*sheet, at)
+    let o = target_at(src.sheet, at);
+    restore_node(code, r, o);
+    behind_target(src.sheet, at)
 }
 
-fn on_jump(list: &mut [u32], st: &mut St, sub: u32, r: Range, o: Option<Label>)
-    ensures { (t n b : List ℕ) (base : ℕ) → mem list.new n b st.new ≡ pending_jump (mem_r t) t base sub r (label_or0 (label_of o)) r (mem list.old n b st.old) }
+fn on_jump(code: &mut CodeGen, sub: bool, r: Range, o: Option<Label>)
+    ensures same { SameLoans code.old code.new }
+    ensures value { (t : List ℕ) (base : ℕ) → mem_of code.new ≡ pending_jump (mem_r t) t base (flag_of sub) r (label_or0 (label_of o)) r (mem_of code.old) }
 {
     let Some(l) = o else {
-        pending_jump(list, st, sub, r, Label(0), r);
+        pending_jump(code, sub, r, Label(0), r);
         return;
     };
-    pending_jump(list, st, sub, r, l, r)
+    pending_jump(code, sub, r, l, r)
 }
 
 // So many targets, a jump each.
-fn on_jumps(sheet: &&[u32], list: &mut [u32], st: &mut St, at: usize, n: u32, sub: u32)
-    ensures { (t o b : List ℕ) (base : ℕ) → mem list.new o b st.new ≡ on_jumps (mem_r t) t base sub (on_targets_at sheet.now.now n at) (mem list.old o b st.old) }
+fn on_jumps(src: &Source, code: &mut CodeGen, at: usize, n: u32, sub: bool)
+    ensures same { SameLoans code.old code.new }
+    ensures value { (t : List ℕ) (base : ℕ) → mem_of code.new ≡ on_jumps (mem_r t) t base (flag_of sub) (on_targets_at src.now.sheet.now n at) (mem_of code.old) }
 {
     let mut p = at;
     for _ in 0..n {
-        let r = recorder::word::range_at(*sheet, p);
-        let q = recorder::word::behind(*sheet, p);
-        let o = opt_label_at(*sheet, q);
-        on_jump(list, st, sub, r, o);
-        p = recorder::word::behind(*sheet, q);
+        let r = recorder::word::range_at(src.sheet, p);
+        let q = recorder::word::behind(src.sheet, p);
+        let o = opt_label_at(src.sheet, q);
+        on_jump(code, sub, r, o);
+        p = recorder::word::behind(src.sheet, q);
     }
 }
 
@@ -157,37 +168,16 @@ fn behind_targets(sheet: &[u32], at: usize, n: u32) -> usize
 }
 
 // The targets stand before the flag that says whether they are GOSUB's.
-#[tactic(auto, unfolding(sheet::specs::Tree::stmt_node, rules::specs::Stmt::compile_stmt, sheet::specs::Skip::skip_fields, sheet::specs::Skip::skip_field, sheet::specs::Skip::skip_times, sheet::specs::Skip::skip_pair, sheet::specs::Skip::skip_item, rules::specs::Stmt::compile_on, sheet::specs::Skip::skip_list), using(expressions::proofs::Lists::items_length))]
-pub fn compile_on(
-    sheet: &&[u32],
-    text: &&[u16],
-    list: &mut [u32],
-    notes: &mut [u32],
-    book: &mut [u32],
-    st: &mut St,
-    base: u32,
-    at: usize,
-    left: usize,
-    r: Range,
-) -> usize
-    ensures { (k : ℕ) → Body sheet.now.now text.now.now base left Shape.On k r at (mem list.old notes.old book.old st.old) (mem list.new notes.new book.new st.new) result }
+#[tactic(auto, unfolding(sheet::specs::Tree::stmt_node, rules::specs::Stmt::compile_stmt, sheet::specs::Skip::skip_fields, sheet::specs::Skip::skip_field, sheet::specs::Skip::skip_times, sheet::specs::Skip::skip_pair, sheet::specs::Skip::skip_item, rules::specs::Stmt::compile_on, sheet::specs::Skip::skip_list), using(expressions::proofs::Lists::items_length, crate::proofs::JumpLaws::same_jumps))]
+pub fn compile_on(src: &Source, code: &mut CodeGen, at: usize, left: usize, r: Range) -> usize
+    ensures same { SameLoans code.old code.new }
+    ensures value { (k : ℕ) → Body src.now.sheet.now src.now.text.now src.now.base left Shape.On k r at (mem_of code.old) (mem_of code.new) result }
 {
-    let x = expressions::expr::compile_typed(
-        sheet,
-        text,
-        list,
-        notes,
-        book,
-        st,
-        base,
-        at,
-        left,
-        Type::Real,
-    );
-    let c = expressions::expr::read_payload(*sheet, x);
-    let e = behind_targets(*sheet, c.at, c.value);
-    let sub = recorder::word::payload_at(*sheet, e);
-    recorder::codegen::emit_on(list, st, r, c.value);
-    on_jumps(sheet, list, st, c.at, c.value, sub);
-    recorder::word::behind(*sheet, e)
+    let x = expressions::expr::compile_typed(src, code, at, left, Type::Real);
+    let c = expressions::expr::read_payload(src.sheet, x);
+    let e = behind_targets(src.sheet, c.at, c.value);
+    let sub = recorder::word::payload_at(src.sheet, e) == 1;
+    code.emit(r, Call::On(c.value));
+    on_jumps(src, code, c.at, c.value, sub);
+    recorder::word::behind(src.sheet, e)
 }

@@ -7,7 +7,7 @@ use lib.ListN.{get_or, length}
 use lib.Dec.{ltb}
 use native.Mathlib.Omega.{arith}
 use Rattle.recorder.specs.declared.word.Range.{Range}
-use Rattle.recorder.specs.Word.{pick, payload_at, range_at, next}
+use Rattle.recorder.specs.Word.{pick, payload_at, range_at, next, flag_of}
 use Rattle.recorder.specs.Mem.{Mem, mem_r, names_in, symbol_number, entry_of, known, as_word, records_in}
 use Rattle.sheet.specs.declared.form.Shape.TheVariants.{For, Next, While}
 use Rattle.sheet.specs.Skip.{skip_repeat, skip_list, skip_fields, skip_field, skip_times, skip_pair, skip_item}
@@ -23,9 +23,9 @@ use Rattle.expressions.proofs.Lists.{items_step, items_length, repeat_step}
 use Rattle.loops.specs.Parts.{Stepped, NextDone}
 
 -- FOR
-pub at_for : (s t : List ℕ) (base left k at : ℕ) (r : Range) (o : Option Range) (v q1 q2 q3 q4 f : ℕ) (m m1 m2 m3 m4 m5 : Mem) → opt_of o ≡ opt_at s (range_at s) at
+pub at_for : (s t : List ℕ) (base left k at : ℕ) (r : Range) (o : Option Range) (v q1 q2 q3 q4 : ℕ) (f : Bool) (m m1 m2 m3 m4 m5 : Mem) → opt_of o ≡ opt_at s (range_at s) at
     → named m1 v ≡ opt_real_sym (mem_r t) t base (opt_of o) m → q1 ≡ next s at → CompiledTyped s t base left q1 Real m1 m2 q2 → CompiledTyped s t base left q2 Real m2 m3 q3
-    → Stepped s t base left q3 m3 m4 q4 f → ((e : Opt Expr) → f ≡ step_flag e → m5 ≡ for_node (mem_r t) t base (opt_of o) r v e m4) → Body s t base left For k r at m m5 q4
+    → Stepped s t base left q3 m3 m4 q4 f → ((e : Opt Expr) → flag_of f ≡ step_flag e → m5 ≡ for_node (mem_r t) t base (opt_of o) r v e m4) → Body s t base left For k r at m m5 q4
 unfolding stmt_node compile_stmt compile_for skip_fields skip_field skip_times skip_pair skip_item
 at_for s t base left k at r o v q1 q2 q3 q4 f m m1 m2 m3 m4 m5 ho hv h1 x y z last = record {
   place = rw (← h1, ← x.place, ← y.place) z.place;

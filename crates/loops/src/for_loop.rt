@@ -1,9 +1,10 @@
 // FOR and NEXT.
 ghost use Rattle.std.specs.Prelude.{◌≡◌, List, ℕ};
-ghost use Rattle.recorder.specs.Mem.{mem, mem_r};
+ghost use Rattle.recorder.specs.Mem.{mem_r, note};
+ghost use Rattle.recorder.specs.CodeGen.{mem_of, SameLoans};
 ghost use Rattle.sheet.specs.declared.form.Shape.TheVariants.{For, Next};
 ghost use Rattle.sheet.specs.Tree.{Opt, Expr};
-ghost use Rattle.recorder.specs.Word.{pick};
+ghost use Rattle.recorder.specs.Word.{pick, flag_of};
 ghost use Rattle.rules.specs.declared.types.«Type».TheVariants.{Real};
 ghost use Rattle.rules.specs.Types.{matches_type};
 ghost use Rattle.rules.specs.Stmt.{for_node, step_flag, next_one, next_range};
@@ -11,7 +12,9 @@ ghost use Rattle.nodes.specs.Compiled.{opt_of};
 ghost use Rattle.expressions.specs.Body.{Body};
 ghost use Rattle.loops.specs.Parts.{Stepped, NextDone};
 
-use recorder::codegen::St;
+use nodes::source::Source;
+use recorder::call::{Call, Class};
+use recorder::codegen::CodeGen;
 use recorder::word::Range;
 use rules::types::Type;
 
@@ -19,107 +22,57 @@ use rules::types::Type;
 #[derive(Clone, Copy)]
 struct Step {
     at: usize,
-    flag: u32,
+    flag: bool,
 }
 
 #[tactic(auto, unfolding(sheet::specs::Skip::skip_field, sheet::specs::Skip::skip_times, sheet::specs::Skip::skip_pair, sheet::specs::Skip::skip_item))]
-fn compile_step(
-    sheet: &&[u32],
-    text: &&[u16],
-    list: &mut [u32],
-    notes: &mut [u32],
-    book: &mut [u32],
-    st: &mut St,
-    base: u32,
-    at: usize,
-    left: usize,
-) -> Step
-    ensures { Stepped sheet.now.now text.now.now base left at (mem list.old notes.old book.old st.old) (mem list.new notes.new book.new st.new) result.at result.flag }
+fn compile_step(src: &Source, code: &mut CodeGen, at: usize, left: usize) -> Step
+    ensures same { SameLoans code.old code.new }
+    ensures value { Stepped src.now.sheet.now src.now.text.now src.now.base left at (mem_of code.old) (mem_of code.new) result.at result.flag }
 {
-    if sheet::leaf::is_absent(*sheet, at) {
+    if sheet::leaf::is_absent(src.sheet, at) {
         Step {
-            at: recorder::word::behind(*sheet, at),
-            flag: 0,
+            at: recorder::word::behind(src.sheet, at),
+            flag: false,
         }
     } else {
-        let x = expressions::expr::compile_typed(
-            sheet,
-            text,
-            list,
-            notes,
-            book,
-            st,
-            base,
-            at,
-            left,
-            Type::Real,
-        );
-        Step { at: x, flag: 1 }
+        let x = expressions::expr::compile_typed(src, code, at, left, Type::Real);
+        Step { at: x, flag: true }
     }
 }
 
 // FOR's record, where its counter has a name: call 23.
-fn for_node(list: &mut [u32], st: &mut St, o: Option<Range>, r: Range, n: u32, step: u32)
-    ensures { (t k b : List ℕ) (base : ℕ) (e : Opt Expr) → step ≡ step_flag e → mem list.new k b st.new ≡ for_node (mem_r t) t base (opt_of o) r n e (mem list.old k b st.old) }
+fn for_node(code: &mut CodeGen, o: Option<Range>, r: Range, n: u32, step: bool)
+    ensures same { SameLoans code.old code.new }
+    ensures value { (t : List ℕ) (base : ℕ) (e : Opt Expr) → flag_of step ≡ step_flag e → mem_of code.new ≡ for_node (mem_r t) t base (opt_of o) r n e (mem_of code.old) }
 {
     match o {
-        Some(_) => recorder::codegen::emit_for(list, st, r, n, step),
+        Some(_) => code.emit(r, Call::For(n, step)),
         None => {}
     }
 }
 
-pub fn compile_for(
-    sheet: &&[u32],
-    text: &&[u16],
-    list: &mut [u32],
-    notes: &mut [u32],
-    book: &mut [u32],
-    st: &mut St,
-    base: u32,
-    at: usize,
-    left: usize,
-    r: Range,
-) -> usize
-    ensures { (k : ℕ) → Body sheet.now.now text.now.now base left For k r at (mem list.old notes.old book.old st.old) (mem list.new notes.new book.new st.new) result }
+pub fn compile_for(src: &Source, code: &mut CodeGen, at: usize, left: usize, r: Range) -> usize
+    ensures same { SameLoans code.old code.new }
+    ensures value { (k : ℕ) → Body src.now.sheet.now src.now.text.now src.now.base left For k r at (mem_of code.old) (mem_of code.new) result }
 {
-    let o = nodes::node::opt_range_at(*sheet, at);
-    let y = nodes::node::opt_real_sym(*text, notes, book, st, base, o);
-    let p = recorder::word::behind(*sheet, at);
-    let a = expressions::expr::compile_typed(
-        sheet,
-        text,
-        list,
-        notes,
-        book,
-        st,
-        base,
-        p,
-        left,
-        Type::Real,
-    );
-    let b = expressions::expr::compile_typed(
-        sheet,
-        text,
-        list,
-        notes,
-        book,
-        st,
-        base,
-        a,
-        left,
-        Type::Real,
-    );
-    let c = compile_step(sheet, text, list, notes, book, st, base, b, left);
-    for_node(list, st, o, r, y, c.flag);
+    let o = nodes::node::opt_range_at(src.sheet, at);
+    let y = nodes::node::opt_real_sym(src, code, o);
+    let p = recorder::word::behind(src.sheet, at);
+    let a = expressions::expr::compile_typed(src, code, p, left, Type::Real);
+    let b = expressions::expr::compile_typed(src, code, a, left, Type::Real);
+    let c = compile_step(src, code, b, left);
+    for_node(code, o, r, y, c.flag);
     c.at
 }
 
 // NEXT's note where its counter is no number: class 5.
-fn next_note(notes: &mut [u32], st: &mut St, v: Range, ty: Type)
-    ensures { (t l b : List ℕ) → mem l notes.new b st.new ≡ pick (matches_type ty Real) (mem l notes.old b st.old) ((mem_r t).note (mem l notes.old b st.old) 5 v 1) }
+fn next_note(code: &mut CodeGen, v: Range, ty: Type)
+    ensures same { SameLoans code.old code.new }
+    ensures value { mem_of code.new ≡ pick (matches_type ty Real) (mem_of code.old) (note (mem_of code.old) 5 v 1) }
 {
     if !ty.matches(Type::Real) {
-        recorder::codegen::note(notes, st, 5, v, 1)
+        code.note(Class::NameOfWrongKind, v)
     }
 }
 
@@ -130,72 +83,44 @@ fn next_range(n: u32, r: Range, v: Range) -> Range
 }
 
 // One of n names of NEXT: call 24.
-fn next_one(
-    text: &&[u16],
-    list: &mut [u32],
-    notes: &mut [u32],
-    book: &mut [u32],
-    st: &mut St,
-    base: u32,
-    n: u32,
-    r: Range,
-    o: Option<Range>,
-)
-    ensures { mem list.new notes.new book.new st.new ≡ next_one (mem_r text.now.now) text.now.now base n r (opt_of o) (mem list.old notes.old book.old st.old) }
+fn next_one(src: &Source, code: &mut CodeGen, n: u32, r: Range, o: Option<Range>)
+    ensures same { SameLoans code.old code.new }
+    ensures value { mem_of code.new ≡ next_one (mem_r src.now.text.now) src.now.text.now src.now.base n r (opt_of o) (mem_of code.old) }
 {
     match o {
         Some(v) => {
-            let y = nodes::node::compile_sym(*text, notes, book, st, base, v);
+            let y = nodes::node::compile_sym(src, code, v);
             let ty = y.ty;
-            next_note(notes, st, v, ty);
+            next_note(code, v, ty);
             let w = next_range(n, r, v);
-            recorder::codegen::emit_next(list, st, w, y.number + 1)
+            code.emit(w, Call::Next(y.number + 1))
         }
         None => {}
     }
 }
 
-fn next_each(
-    sheet: &&[u32],
-    text: &&[u16],
-    list: &mut [u32],
-    notes: &mut [u32],
-    book: &mut [u32],
-    st: &mut St,
-    base: u32,
-    at: usize,
-    n: u32,
-    r: Range,
-) -> usize
-    ensures { NextDone sheet.now.now text.now.now base at n r (mem list.old notes.old book.old st.old) (mem list.new notes.new book.new st.new) result }
+fn next_each(src: &Source, code: &mut CodeGen, at: usize, n: u32, r: Range) -> usize
+    ensures same { SameLoans code.old code.new }
+    ensures value { NextDone src.now.sheet.now src.now.text.now src.now.base at n r (mem_of code.old) (mem_of code.new) result }
 {
     let mut p = at;
     for _ in 0..n {
-        let o = nodes::node::opt_range_at(*sheet, p);
-        next_one(text, list, notes, book, st, base, n, r, o);
-        p = recorder::word::behind(*sheet, p);
+        let o = nodes::node::opt_range_at(src.sheet, p);
+        next_one(src, code, n, r, o);
+        p = recorder::word::behind(src.sheet, p);
     }
     p
 }
 
-pub fn compile_next(
-    sheet: &&[u32],
-    text: &&[u16],
-    list: &mut [u32],
-    notes: &mut [u32],
-    book: &mut [u32],
-    st: &mut St,
-    base: u32,
-    at: usize,
-    r: Range,
-) -> usize
-    ensures { (left k : ℕ) → Body sheet.now.now text.now.now base left Next k r at (mem list.old notes.old book.old st.old) (mem list.new notes.new book.new st.new) result }
+pub fn compile_next(src: &Source, code: &mut CodeGen, at: usize, r: Range) -> usize
+    ensures same { SameLoans code.old code.new }
+    ensures value { (left k : ℕ) → Body src.now.sheet.now src.now.text.now src.now.base left Next k r at (mem_of code.old) (mem_of code.new) result }
 {
-    let c = expressions::expr::read_payload(*sheet, at);
+    let c = expressions::expr::read_payload(src.sheet, at);
     if c.value == 0 {
-        recorder::codegen::emit_next(list, st, r, 0);
+        code.emit(r, Call::Next(0));
         c.at
     } else {
-        next_each(sheet, text, list, notes, book, st, base, c.at, c.value, r)
+        next_each(src, code, c.at, c.value, r)
     }
 }

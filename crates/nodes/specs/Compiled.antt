@@ -21,9 +21,9 @@ sym m n ty = record { state = m; number = n; ty = ty }
 abbrev pub named : Mem → ℕ → Named Mem
 named m n = record { state = m; number = n }
 
--- the code's option of a range
-abbrev pub opt_of : Option Range → Opt Range
-opt_of (Some r) = given r
+-- the code's option
+abbrev pub opt_of : {A : Type 0} → Option A → Opt A
+opt_of (Some x) = given x
 opt_of None = absent
 
 -- the expression at a place, with `left` depths left: the place behind it, and the memory and kind that the rules give

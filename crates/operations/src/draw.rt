@@ -1,70 +1,48 @@
 // The draw statements: compile_draw_stmt of compiler.rs.
 ghost use Rattle.std.specs.Prelude.{◌≡◌, List, ℕ};
-ghost use Rattle.recorder.specs.Mem.{mem, mem_r};
+ghost use Rattle.recorder.specs.Mem.{mem_r};
+ghost use Rattle.recorder.specs.CodeGen.{mem_of, SameLoans};
 ghost use Rattle.sheet.specs.Tree.{args_at};
 ghost use Rattle.rules.specs.Stmt.{draw_node};
 ghost use Rattle.expressions.specs.Body.{Body};
 
-use recorder::codegen::St;
+use nodes::source::Source;
+use recorder::call::{Call, Class};
+use recorder::codegen::CodeGen;
 use recorder::word::Range;
 use rules::tables::Wants;
 use sheet::form::{Shape, Sort};
 
 // Too few arguments, too many, or the call.
-fn draw_node(
-    sheet: &&[u32],
-    list: &mut [u32],
-    notes: &mut [u32],
-    st: &mut St,
-    at: usize,
-    n: u32,
-    left: usize,
-    k: u32,
-    r: Range,
-)
-    ensures { (t b : List ℕ) (base : ℕ) → mem list.new notes.new b st.new ≡ draw_node (mem_r t) t base k r (args_at sheet.now.now left n at) (mem list.old notes.old b st.old) }
+fn draw_node(src: &Source, code: &mut CodeGen, at: usize, n: u32, left: usize, k: u32, r: Range)
+    ensures same { SameLoans code.old code.new }
+    ensures value { (t : List ℕ) (base : ℕ) → mem_of code.new ≡ draw_node (mem_r t) t base k r (args_at src.now.sheet.now left n at) (mem_of code.old) }
 {
     let arity = rules::tables::draw_arity(k);
     if n < arity.min {
-        recorder::codegen::note(notes, st, 6, r, 1);
+        code.note(Class::TooFewArguments, r);
         return;
     }
     if arity.max < n {
-        expressions::surplus::surplus_notes(sheet, notes, st, at, n, arity.max, left);
+        expressions::surplus::surplus_notes(src, code, at, n, arity.max, left);
         return;
     }
-    recorder::codegen::emit_op(list, st, r, k, n)
+    code.emit(r, Call::Op(k, n))
 }
 
 pub fn compile_draw_stmt(
-    sheet: &&[u32],
-    text: &&[u16],
-    list: &mut [u32],
-    notes: &mut [u32],
-    book: &mut [u32],
-    st: &mut St,
-    base: u32,
+    src: &Source,
+    code: &mut CodeGen,
     at: usize,
     left: usize,
     k: u32,
     r: Range,
 ) -> usize
-    ensures { Body sheet.now.now text.now.now base left Shape.Draw k r at (mem list.old notes.old book.old st.old) (mem list.new notes.new book.new st.new) result }
+    ensures same { SameLoans code.old code.new }
+    ensures value { Body src.now.sheet.now src.now.text.now src.now.base left Shape.Draw k r at (mem_of code.old) (mem_of code.new) result }
 {
-    let c = expressions::expr::read_payload(*sheet, at);
-    let x = expressions::expr::compile_args(
-        sheet,
-        text,
-        list,
-        notes,
-        book,
-        st,
-        base,
-        c.at,
-        c.value,
-        Wants::Draw(k),
-        left,
-    );
-    draw_node(sheet, list, notes, st, c.at, c.value, left, k, r);
+    let c = expressions::expr::read_payload(src.sheet, at);
+    let x = expressions::expr::compile_args(src, code, c.at, c.value, Wants::Draw(k), left);
+    draw_node(src, code, c.at, c.value, left, k, r);
     x
 }

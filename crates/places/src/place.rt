@@ -1,137 +1,99 @@
 // Statements that store: LET, SWAP and READ.
 ghost use Rattle.std.specs.Prelude.{◌≡◌, List, ℕ};
 ghost use Rattle.recorder.specs.Word.{pick};
-ghost use Rattle.recorder.specs.Mem.{mem, mem_r};
+ghost use Rattle.recorder.specs.Mem.{mem_r, note};
+ghost use Rattle.recorder.specs.CodeGen.{mem_of, SameLoans};
 ghost use Rattle.rules.specs.Stmt.{assign_call, assign_node};
 ghost use Rattle.expressions.specs.Body.{Body};
 ghost use Rattle.places.specs.Parts.{ReadEach};
 
-use recorder::codegen::St;
+use nodes::source::Source;
+use recorder::call::{Call, Class};
+use recorder::codegen::CodeGen;
 use recorder::word::Range;
 use rules::types::Type;
 use sheet::form::Shape;
 
 // A note of class 4 where two kinds do not fit.
-fn fits_note(notes: &mut [u32], st: &mut St, r: Range, fits: bool)
-    ensures { (t l b : List ℕ) → mem l notes.new b st.new ≡ pick fits (mem l notes.old b st.old) ((mem_r t).note (mem l notes.old b st.old) 4 r 1) }
+fn fits_note(code: &mut CodeGen, r: Range, fits: bool)
+    ensures same { SameLoans code.old code.new }
+    ensures value { mem_of code.new ≡ pick fits (mem_of code.old) (note (mem_of code.old) 4 r 1) }
 {
     if !fits {
-        recorder::codegen::note(notes, st, 4, r, 1)
+        code.note(Class::KindsDiffer, r)
     }
 }
 
-fn assign_call(list: &mut [u32], st: &mut St, r: Range, x: Type)
-    ensures { (t n b : List ℕ) (base : ℕ) → mem list.new n b st.new ≡ assign_call (mem_r t) t base x r (mem list.old n b st.old) }
+fn assign_call(code: &mut CodeGen, r: Range, x: Type)
+    ensures same { SameLoans code.old code.new }
+    ensures value { (t : List ℕ) (base : ℕ) → mem_of code.new ≡ assign_call (mem_r t) t base x r (mem_of code.old) }
 {
     match x {
-        Type::Integer => recorder::codegen::emit_assign_int(list, st, r),
-        Type::Real => recorder::codegen::emit_assign_real(list, st, r),
-        Type::String => recorder::codegen::emit_assign_str(list, st, r),
+        Type::Integer => code.emit(r, Call::AssignInt),
+        Type::Real => code.emit(r, Call::AssignReal),
+        Type::String => code.emit(r, Call::AssignStr),
         Type::Error => {}
     }
 }
 
 // LET behind its two sides.
-fn assign_node(list: &mut [u32], notes: &mut [u32], st: &mut St, r: Range, x: Type, y: Type)
-    ensures { (t b : List ℕ) (base : ℕ) → mem list.new notes.new b st.new ≡ assign_node (mem_r t) t base r x y (mem list.old notes.old b st.old) }
+fn assign_node(code: &mut CodeGen, r: Range, x: Type, y: Type)
+    ensures same { SameLoans code.old code.new }
+    ensures value { (t : List ℕ) (base : ℕ) → mem_of code.new ≡ assign_node (mem_r t) t base r x y (mem_of code.old) }
 {
     let fits = x.matches(y);
-    fits_note(notes, st, r, fits);
-    assign_call(list, st, r, x)
+    fits_note(code, r, fits);
+    assign_call(code, r, x)
 }
 
 #[tactic(auto, unfolding(sheet::specs::Tree::stmt_node, rules::specs::Stmt::compile_stmt, sheet::specs::Skip::skip_fields, sheet::specs::Skip::skip_field, sheet::specs::Skip::skip_times, sheet::specs::Skip::skip_pair, sheet::specs::Skip::skip_item, rules::specs::Stmt::compile_let), using(expressions::proofs::Lists::place_same))]
-pub fn compile_let(
-    sheet: &&[u32],
-    text: &&[u16],
-    list: &mut [u32],
-    notes: &mut [u32],
-    book: &mut [u32],
-    st: &mut St,
-    base: u32,
-    at: usize,
-    left: usize,
-    r: Range,
-) -> usize
-    ensures { (k : ℕ) → Body sheet.now.now text.now.now base left Shape.Let k r at (mem list.old notes.old book.old st.old) (mem list.new notes.new book.new st.new) result }
+pub fn compile_let(src: &Source, code: &mut CodeGen, at: usize, left: usize, r: Range) -> usize
+    ensures same { SameLoans code.old code.new }
+    ensures value { (k : ℕ) → Body src.now.sheet.now src.now.text.now src.now.base left Shape.Let k r at (mem_of code.old) (mem_of code.new) result }
 {
-    let x = expressions::expr::compile_lvalue(sheet, text, list, notes, book, st, base, at, left);
+    let x = expressions::expr::compile_lvalue(src, code, at, left);
     let xt = x.ty;
-    let y = expressions::expr::compile_expr(sheet, text, list, notes, book, st, base, x.at, left);
+    let y = expressions::expr::compile_expr(src, code, x.at, left);
     let yt = y.ty;
-    assign_node(list, notes, st, r, xt, yt);
+    assign_node(code, r, xt, yt);
     y.at
 }
 
 #[tactic(auto, unfolding(sheet::specs::Tree::stmt_node, rules::specs::Stmt::compile_stmt, sheet::specs::Skip::skip_fields, sheet::specs::Skip::skip_field, sheet::specs::Skip::skip_times, sheet::specs::Skip::skip_pair, sheet::specs::Skip::skip_item, rules::specs::Stmt::compile_swap), using(expressions::proofs::Lists::place_same))]
-pub fn compile_swap(
-    sheet: &&[u32],
-    text: &&[u16],
-    list: &mut [u32],
-    notes: &mut [u32],
-    book: &mut [u32],
-    st: &mut St,
-    base: u32,
-    at: usize,
-    left: usize,
-    r: Range,
-) -> usize
-    ensures { (k : ℕ) → Body sheet.now.now text.now.now base left Shape.Swap k r at (mem list.old notes.old book.old st.old) (mem list.new notes.new book.new st.new) result }
+pub fn compile_swap(src: &Source, code: &mut CodeGen, at: usize, left: usize, r: Range) -> usize
+    ensures same { SameLoans code.old code.new }
+    ensures value { (k : ℕ) → Body src.now.sheet.now src.now.text.now src.now.base left Shape.Swap k r at (mem_of code.old) (mem_of code.new) result }
 {
-    let x = expressions::expr::compile_lvalue(sheet, text, list, notes, book, st, base, at, left);
+    let x = expressions::expr::compile_lvalue(src, code, at, left);
     let xt = x.ty;
-    let y = expressions::expr::compile_lvalue(sheet, text, list, notes, book, st, base, x.at, left);
+    let y = expressions::expr::compile_lvalue(src, code, x.at, left);
     let yt = y.ty;
     let fits = xt.exact_matches(yt);
-    fits_note(notes, st, r, fits);
-    recorder::codegen::emit_op(list, st, r, 58, 2);
+    fits_note(code, r, fits);
+    code.emit(r, Call::Op(58, 2));
     y.at
 }
 
 // So many places, each with the record that reads it.
-fn read_each(
-    sheet: &&[u32],
-    text: &&[u16],
-    list: &mut [u32],
-    notes: &mut [u32],
-    book: &mut [u32],
-    st: &mut St,
-    base: u32,
-    at: usize,
-    n: u32,
-    left: usize,
-) -> usize
-    ensures { ReadEach sheet.now.now text.now.now base left at n (mem list.old notes.old book.old st.old) (mem list.new notes.new book.new st.new) result }
+fn read_each(src: &Source, code: &mut CodeGen, at: usize, n: u32, left: usize) -> usize
+    ensures same { SameLoans code.old code.new }
+    ensures value { ReadEach src.now.sheet.now src.now.text.now src.now.base left at n (mem_of code.old) (mem_of code.new) result }
 {
     let mut p = at;
     for _ in 0..n {
-        let x = expressions::expr::compile_lvalue(
-            sheet, text, list, notes, book, st, base, p, left,
-        );
-        let r = expressions::expr::node_range(*sheet, p);
-        recorder::codegen::emit_read(list, st, r);
+        let x = expressions::expr::compile_lvalue(src, code, p, left);
+        let r = expressions::expr::node_range(src.sheet, p);
+        code.emit(r, Call::Read);
         p = x.at;
     }
     p
 }
 
 #[tactic(auto, unfolding(sheet::specs::Tree::stmt_node, rules::specs::Stmt::compile_stmt, sheet::specs::Skip::skip_fields, sheet::specs::Skip::skip_field, sheet::specs::Skip::skip_times, sheet::specs::Skip::skip_pair, sheet::specs::Skip::skip_item, rules::specs::Stmt::compile_read, sheet::specs::Skip::skip_list))]
-pub fn compile_read(
-    sheet: &&[u32],
-    text: &&[u16],
-    list: &mut [u32],
-    notes: &mut [u32],
-    book: &mut [u32],
-    st: &mut St,
-    base: u32,
-    at: usize,
-    left: usize,
-    r: Range,
-) -> usize
-    ensures { (k : ℕ) → Body sheet.now.now text.now.now base left Shape.Read k r at (mem list.old notes.old book.old st.old) (mem list.new notes.new book.new st.new) result }
+pub fn compile_read(src: &Source, code: &mut CodeGen, at: usize, left: usize, r: Range) -> usize
+    ensures same { SameLoans code.old code.new }
+    ensures value { (k : ℕ) → Body src.now.sheet.now src.now.text.now src.now.base left Shape.Read k r at (mem_of code.old) (mem_of code.new) result }
 {
-    let c = expressions::expr::read_payload(*sheet, at);
-    read_each(
-        sheet, text, list, notes, book, st, base, c.at, c.value, left,
-    )
+    let c = expressions::expr::read_payload(src.sheet, at);
+    read_each(src, code, c.at, c.value, left)
 }

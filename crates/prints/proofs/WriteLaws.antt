@@ -7,7 +7,7 @@ use lib.Dec.{eqb}
 use borrow.Author.Tests.{ne_eqb}
 use native.Mathlib.Omega.{arith}
 use Rattle.recorder.specs.declared.word.Range.{Range}
-use Rattle.recorder.specs.Word.{either, range_at, next}
+use Rattle.recorder.specs.Word.{either, range_at, next, flag_of}
 use Rattle.recorder.specs.Mem.{Mem, mem_r}
 use Rattle.sheet.specs.declared.form.Sort.TheVariants.{Expr as exprSort}
 use Rattle.sheet.specs.declared.form.Shape.TheVariants.{Write}
@@ -17,7 +17,7 @@ use Rattle.sheet.specs.Tree.{Expr, WriteElement, expr_range, expr_at, items_at, 
 use Rattle.rules.specs.declared.types.«Type».{«Type» as Ty}
 use Rattle.rules.specs.declared.types.«Type».TheVariants.{Real}
 use Rattle.rules.specs.Expr.{compile_expr}
-use Rattle.rules.specs.Stmt.{compile_stmt, flag_of, is_last, write_value, write_each}
+use Rattle.rules.specs.Stmt.{compile_stmt, is_last, write_value, write_each}
 use Rattle.nodes.specs.Compiled.{Compiled, CompiledTyped, PayloadAt}
 use Rattle.expressions.specs.Body.{Body}
 use Rattle.expressions.proofs.Lists.{items_step, repeat_step}

@@ -1,13 +1,16 @@
 // compile_print of compiler.rs.
 ghost use Rattle.std.specs.Prelude.{◌≡◌, true, false, List, ℕ, eqb};
 ghost use Rattle.recorder.specs.Word.{pick, both, either, payload_at};
-ghost use Rattle.recorder.specs.Mem.{mem, mem_r};
+ghost use Rattle.recorder.specs.Mem.{mem_r};
+ghost use Rattle.recorder.specs.CodeGen.{mem_of, SameLoans};
 ghost use Rattle.sheet.specs.Tree.{expr_at};
 ghost use Rattle.rules.specs.Stmt.{is_tab_spc, blank_between};
 ghost use Rattle.expressions.specs.Body.{Body};
 ghost use Rattle.prints.specs.Parts.{Tabbed, Valued, OnePrinted, Printed, print_call, tab_emit, behind_call, blank_line};
 
-use recorder::codegen::St;
+use nodes::source::Source;
+use recorder::call::Call;
+use recorder::codegen::CodeGen;
 use recorder::word::Range;
 use rules::tables::Wants;
 use rules::types::Type;
@@ -38,33 +41,36 @@ fn is_tab_spc(sheet: &[u32], at: usize, left: usize) -> bool
 }
 
 // Call 38 or 39.
-fn print_call(list: &mut [u32], st: &mut St, r: Range, ty: Type)
-    ensures { (t o b : List ℕ) → mem list.new o b st.new ≡ print_call (mem_r t) r ty (mem list.old o b st.old) }
+fn print_call(code: &mut CodeGen, r: Range, ty: Type)
+    ensures same { SameLoans code.old code.new }
+    ensures value { (t : List ℕ) → mem_of code.new ≡ print_call (mem_r t) r ty (mem_of code.old) }
 {
     if ty.matches(Type::Real) {
-        recorder::codegen::emit_print_num(list, st, r)
+        code.emit(r, Call::PrintNum)
     } else {
-        recorder::codegen::emit_print_str(list, st, r)
+        code.emit(r, Call::PrintStr)
     }
 }
 
 // Call 40 or 41.
-fn tab_emit(list: &mut [u32], st: &mut St, r: Range, k: u32)
-    ensures { (t o b : List ℕ) → mem list.new o b st.new ≡ tab_emit (mem_r t) r k (mem list.old o b st.old) }
+fn tab_emit(code: &mut CodeGen, r: Range, k: u32)
+    ensures same { SameLoans code.old code.new }
+    ensures value { (t : List ℕ) → mem_of code.new ≡ tab_emit (mem_r t) r k (mem_of code.old) }
 {
     if k == 28 {
-        recorder::codegen::emit_print_spc(list, st, r)
+        code.emit(r, Call::PrintSpc)
     } else {
-        recorder::codegen::emit_print_tab(list, st, r)
+        code.emit(r, Call::PrintTab)
     }
 }
 
 // One blank: the number one, and SPC.
-fn blank_between(list: &mut [u32], st: &mut St, r: Range)
-    ensures { (t o b : List ℕ) (base : ℕ) → mem list.new o b st.new ≡ blank_between (mem_r t) t base r (mem list.old o b st.old) }
+fn blank_between(code: &mut CodeGen, r: Range)
+    ensures same { SameLoans code.old code.new }
+    ensures value { (t : List ℕ) (base : ℕ) → mem_of code.new ≡ blank_between (mem_r t) t base r (mem_of code.old) }
 {
-    recorder::codegen::emit_number(list, st, r, 129, 2147483648);
-    recorder::codegen::emit_print_spc(list, st, r)
+    code.emit(r, Call::Number(129, 2147483648));
+    code.emit(r, Call::PrintSpc)
 }
 
 // Whether a blank follows: the next element is an expression, and this one is not TAB or SPC.
@@ -76,114 +82,77 @@ fn wants_blank(sheet: &[u32], at: usize, tabbed: bool) -> bool
 
 // What follows an expression: `more` counts its element and those behind it, the next of which is at the place.
 fn behind_value(
-    sheet: &&[u32],
-    list: &mut [u32],
-    st: &mut St,
+    src: &Source,
+    code: &mut CodeGen,
     at: usize,
     more: u32,
     tabbed: bool,
     er: Range,
     r: Range,
 )
-    ensures { (t o b : List ℕ) → mem list.new o b st.new ≡ behind_call (mem_r t) tabbed r er more (eqb (payload_at sheet.now.now at) 0) (mem list.old o b st.old) }
+    ensures same { SameLoans code.old code.new }
+    ensures value { (t : List ℕ) → mem_of code.new ≡ behind_call (mem_r t) tabbed r er more (eqb (payload_at src.now.sheet.now at) 0) (mem_of code.old) }
 {
     if more < 2 {
-        recorder::codegen::emit_newline(list, st, r)
-    } else if wants_blank(*sheet, at, tabbed) {
-        blank_between(list, st, er)
+        code.emit(r, Call::Newline)
+    } else if wants_blank(src.sheet, at, tabbed) {
+        blank_between(code, er)
     }
 }
 
 // TAB or SPC, from the function's range on.
-fn tab_call(
-    sheet: &&[u32],
-    text: &&[u16],
-    list: &mut [u32],
-    notes: &mut [u32],
-    book: &mut [u32],
-    st: &mut St,
-    base: u32,
-    at: usize,
-    left: usize,
-    r: Range,
-) -> usize
-    ensures { Tabbed sheet.now.now text.now.now base left r at (mem list.old notes.old book.old st.old) (mem list.new notes.new book.new st.new) result }
+fn tab_call(src: &Source, code: &mut CodeGen, at: usize, left: usize, r: Range) -> usize
+    ensures same { SameLoans code.old code.new }
+    ensures value { Tabbed src.now.sheet.now src.now.text.now src.now.base left r at (mem_of code.old) (mem_of code.new) result }
 {
-    let q = recorder::word::behind(*sheet, at);
-    let f = expressions::expr::read_payload(*sheet, q);
-    let c = expressions::expr::read_payload(*sheet, f.at);
-    expressions::surplus::surplus_notes(sheet, notes, st, c.at, c.value, 1, left);
-    let x = expressions::expr::compile_args(
-        sheet,
-        text,
-        list,
-        notes,
-        book,
-        st,
-        base,
-        c.at,
-        c.value,
-        Wants::Func(f.value),
-        left,
-    );
-    tab_emit(list, st, r, f.value);
+    let q = recorder::word::behind(src.sheet, at);
+    let f = expressions::expr::read_payload(src.sheet, q);
+    let c = expressions::expr::read_payload(src.sheet, f.at);
+    expressions::surplus::surplus_notes(src, code, c.at, c.value, 1, left);
+    let x = expressions::expr::compile_args(src, code, c.at, c.value, Wants::Func(f.value), left);
+    tab_emit(code, r, f.value);
     x
 }
 
 // An expression as an element: `more` counts it and the elements behind it.
 fn print_value(
-    sheet: &&[u32],
-    text: &&[u16],
-    list: &mut [u32],
-    notes: &mut [u32],
-    book: &mut [u32],
-    st: &mut St,
-    base: u32,
+    src: &Source,
+    code: &mut CodeGen,
     at: usize,
     left: usize,
     more: u32,
     r: Range,
 ) -> usize
-    ensures { Valued sheet.now.now text.now.now base left more r at (mem list.old notes.old book.old st.old) (mem list.new notes.new book.new st.new) result }
+    ensures same { SameLoans code.old code.new }
+    ensures value { Valued src.now.sheet.now src.now.text.now src.now.base left more r at (mem_of code.old) (mem_of code.new) result }
 {
-    let er = expressions::expr::node_range(*sheet, at);
-    if is_tab_spc(*sheet, at, left) {
-        let p = recorder::word::behind(*sheet, recorder::word::behind(*sheet, at));
-        let x = tab_call(sheet, text, list, notes, book, st, base, p, left - 1, er);
-        behind_value(sheet, list, st, x, more, true, er, r);
+    let er = expressions::expr::node_range(src.sheet, at);
+    if is_tab_spc(src.sheet, at, left) {
+        let p = recorder::word::behind(src.sheet, recorder::word::behind(src.sheet, at));
+        let x = tab_call(src, code, p, left - 1, er);
+        behind_value(src, code, x, more, true, er, r);
         x
     } else {
-        let x = expressions::expr::compile_expr(sheet, text, list, notes, book, st, base, at, left);
-        print_call(list, st, er, x.ty);
-        behind_value(sheet, list, st, x.at, more, false, er, r);
+        let x = expressions::expr::compile_expr(src, code, at, left);
+        print_call(code, er, x.ty);
+        behind_value(src, code, x.at, more, false, er, r);
         x.at
     }
 }
 
 // One element: `more` counts it and those behind it.
-fn print_one(
-    sheet: &&[u32],
-    text: &&[u16],
-    list: &mut [u32],
-    notes: &mut [u32],
-    book: &mut [u32],
-    st: &mut St,
-    base: u32,
-    at: usize,
-    left: usize,
-    more: u32,
-    r: Range,
-) -> usize
-    ensures { OnePrinted sheet.now.now text.now.now base left more r at (mem list.old notes.old book.old st.old) (mem list.new notes.new book.new st.new) result }
+fn print_one(src: &Source, code: &mut CodeGen, at: usize, left: usize, more: u32, r: Range) -> usize
+    ensures same { SameLoans code.old code.new }
+    ensures value { OnePrinted src.now.sheet.now src.now.text.now src.now.base left more r at (mem_of code.old) (mem_of code.new) result }
 {
-    let k = recorder::word::payload_at(*sheet, at);
-    let q = recorder::word::behind(*sheet, at);
-    let p = recorder::word::behind(*sheet, q);
+    let k = recorder::word::payload_at(src.sheet, at);
+    let q = recorder::word::behind(src.sheet, at);
+    let p = recorder::word::behind(src.sheet, q);
     match k {
-        0 => print_value(sheet, text, list, notes, book, st, base, q, left, more, r),
+        0 => print_value(src, code, q, left, more, r),
         1 => {
-            let er = recorder::word::range_at(*sheet, q);
-            recorder::codegen::emit_newline(list, st, er);
+            let er = recorder::word::range_at(src.sheet, q);
+            code.emit(er, Call::Newline);
             p
         }
         _ => p,
@@ -191,57 +160,41 @@ fn print_one(
 }
 
 // So many elements from a place on.
-fn print_each(
-    sheet: &&[u32],
-    text: &&[u16],
-    list: &mut [u32],
-    notes: &mut [u32],
-    book: &mut [u32],
-    st: &mut St,
-    base: u32,
-    at: usize,
-    left: usize,
-    n: u32,
-    r: Range,
-) -> usize
-    ensures { Printed sheet.now.now text.now.now base left n r at (mem list.old notes.old book.old st.old) (mem list.new notes.new book.new st.new) result }
+fn print_each(src: &Source, code: &mut CodeGen, at: usize, left: usize, n: u32, r: Range) -> usize
+    ensures same { SameLoans code.old code.new }
+    ensures value { Printed src.now.sheet.now src.now.text.now src.now.base left n r at (mem_of code.old) (mem_of code.new) result }
 {
     let mut p = at;
     for i in 0..n {
-        p = print_one(sheet, text, list, notes, book, st, base, p, left, n - i, r);
+        p = print_one(src, code, p, left, n - i, r);
     }
     p
 }
 
 // PRINT with no element is a new line.
-fn empty_line(list: &mut [u32], st: &mut St, n: u32, r: Range)
-    ensures { (t o b : List ℕ) → mem list.new o b st.new ≡ blank_line (mem_r t) n r (mem list.old o b st.old) }
+fn empty_line(code: &mut CodeGen, n: u32, r: Range)
+    ensures same { SameLoans code.old code.new }
+    ensures value { (t : List ℕ) → mem_of code.new ≡ blank_line (mem_r t) n r (mem_of code.old) }
 {
     if n == 0 {
-        recorder::codegen::emit_newline(list, st, r)
+        code.emit(r, Call::Newline)
     }
 }
 
 pub fn compile_print(
-    sheet: &&[u32],
-    text: &&[u16],
-    list: &mut [u32],
-    notes: &mut [u32],
-    book: &mut [u32],
-    st: &mut St,
-    base: u32,
+    src: &Source,
+    code: &mut CodeGen,
     at: usize,
     left: usize,
     k: u32,
     r: Range,
 ) -> usize
-    ensures { Body sheet.now.now text.now.now base left Shape.Print k r at (mem list.old notes.old book.old st.old) (mem list.new notes.new book.new st.new) result }
+    ensures same { SameLoans code.old code.new }
+    ensures value { Body src.now.sheet.now src.now.text.now src.now.base left Shape.Print k r at (mem_of code.old) (mem_of code.new) result }
 {
-    let c = expressions::expr::read_payload(*sheet, at);
-    let x = print_each(
-        sheet, text, list, notes, book, st, base, c.at, left, c.value, r,
-    );
-    empty_line(list, st, c.value, r);
-    recorder::codegen::emit_flush(list, st, r);
+    let c = expressions::expr::read_payload(src.sheet, at);
+    let x = print_each(src, code, c.at, left, c.value, r);
+    empty_line(code, c.value, r);
+    code.emit(r, Call::Flush);
     x
 }

@@ -1,11 +1,14 @@
 // The lines of a program: compile_prog of compiler.rs.
 ghost use Rattle.std.specs.Prelude.{◌≡◌, List, ℕ};
-ghost use Rattle.recorder.specs.Mem.{mem, mem_r};
+ghost use Rattle.recorder.specs.Mem.{mem_r};
+ghost use Rattle.recorder.specs.CodeGen.{mem_of, SameLoans};
 ghost use Rattle.rules.specs.Program.{last_label, label_note};
 ghost use Rattle.jumps.specs.Parts.{target_of};
 ghost use Rattle.program.specs.Line.{line_work, line_count, CompiledLine, Programmed};
 
-use recorder::codegen::St;
+use nodes::source::Source;
+use recorder::call::Class;
+use recorder::codegen::CodeGen;
 use recorder::label::{Addr, Label};
 use recorder::word::Range;
 
@@ -20,14 +23,15 @@ pub struct Lines {
 }
 
 // "1 labels not rising"
-fn label_note(notes: &mut [u32], st: &mut St, last: u32, o: Option<(Range, Label)>)
-    ensures { (t l b : List ℕ) (base : ℕ) → mem l notes.new b st.new ≡ label_note (mem_r t) t base last (target_of o) (mem l notes.old b st.old) }
+fn label_note(code: &mut CodeGen, last: u32, o: Option<(Range, Label)>)
+    ensures same { SameLoans code.old code.new }
+    ensures value { (t : List ℕ) (base : ℕ) → mem_of code.new ≡ label_note (mem_r t) t base last (target_of o) (mem_of code.old) }
 {
     let Some((r, l)) = o else {
         return;
     };
     if (l.0 as u32) < last {
-        recorder::codegen::note(notes, st, 1, r, 1)
+        code.note(Class::LabelsNotRising, r)
     }
 }
 
@@ -53,27 +57,30 @@ fn last_label(last: u32, o: Option<(Range, Label)>) -> u32
 // One line: its length, its label, its statements.
 #[tactic(auto, unfolding(rules::specs::Program::compile_line))]
 fn compile_line(
-    sheet: &&[u32],
-    text: &&[u16],
-    list: &mut [u32],
-    notes: &mut [u32],
-    book: &mut [u32],
+    sheet: &[u32],
+    text: &[u16],
+    code: &mut CodeGen,
     work: &mut [u32],
-    st: &mut St,
     c: Lines,
     line: u32,
 ) -> Lines
-    ensures { CompiledLine sheet.now.now text.now.now line c result (mem list.old notes.old book.old st.old) (mem list.new notes.new book.new st.new) work.old work.new }
+    ensures same { SameLoans code.old code.new }
+    ensures value { CompiledLine sheet.now text.now line c result (mem_of code.old) (mem_of code.new) work.old work.new }
 {
-    let length = sheet::reader::line_length(*sheet, c.at);
-    let p = sheet::reader::label_place(*sheet, c.at);
-    let o = jumps::jump::target_at(*sheet, p);
-    let q = jumps::jump::behind_target(*sheet, p);
-    let addr = recorder::codegen::current_addr(st);
-    recorder::codegen::begin_line(st, line);
-    label_note(notes, st, c.last, o);
-    let at = statements::stmt::compile_stmts(sheet, text, list, notes, book, st, c.base, q, 64);
-    let first = recorder::codegen::first_datum(st);
+    let length = sheet::reader::line_length(sheet, c.at);
+    let p = sheet::reader::label_place(sheet, c.at);
+    let o = jumps::jump::target_at(sheet, p);
+    let q = jumps::jump::behind_target(sheet, p);
+    let src = Source {
+        sheet,
+        text,
+        base: c.base,
+    };
+    let addr = code.current_addr();
+    code.begin_line(line);
+    label_note(code, c.last, o);
+    let at = statements::stmt::compile_stmts(&src, code, q, 64);
+    let first = code.first_datum();
     let marks = mark_line(work, c.marks, o, addr, first);
     Lines {
         at,
@@ -85,16 +92,9 @@ fn compile_line(
 
 // All lines, in order; returns how many labelled ones are in the work, which should be zeros before, with three words for each line
 // and one more.
-pub fn compile_prog(
-    sheet: &[u32],
-    text: &[u16],
-    list: &mut [u32],
-    notes: &mut [u32],
-    book: &mut [u32],
-    work: &mut [u32],
-    st: &mut St,
-) -> usize
-    ensures { Programmed sheet.now text.now (mem list.old notes.old book.old st.old) (mem list.new notes.new book.new st.new) work.old work.new result }
+pub fn compile_prog(sheet: &[u32], text: &[u16], code: &mut CodeGen, work: &mut [u32]) -> usize
+    ensures same { SameLoans code.old code.new }
+    ensures value { Programmed sheet.now text.now (mem_of code.old) (mem_of code.new) work.old work.new result }
 {
     let count = recorder::word::payload_at(sheet, 0);
     let at = recorder::word::behind(sheet, 0);
@@ -105,7 +105,7 @@ pub fn compile_prog(
         base: 0,
     };
     for line in 0..count {
-        c = compile_line(&sheet, &text, list, notes, book, work, st, c, line);
+        c = compile_line(sheet, text, code, work, c, line);
     }
     c.marks
 }

@@ -45,8 +45,8 @@ units_end t p q (suc n) z h e = absurd (omega arith)
 pub by_tag : (t b : List ℕ) (k v x n g : ℕ) (f : Bool) → v ≡ name_tag t x n g → f ≡ tagged_at t b k v x n g → f ≡ named_at t b k x n g
 by_tag t b k v x n g f e i = i ∙ rw e
 
-pub tag_of_name : (t : List ℕ) (v x n g c h : ℕ) → c ≡ sigil_code g → h ≡ hash_of t x c n → v ≡ tag_of h → v ≡ name_tag t x n g
-tag_of_name t v x n g c h i j e = e ∙ rw (j, i)
+pub tag_of_name : (t : List ℕ) (v x n g h : ℕ) → h ≡ hash_of t x (sigil_code g) n → v ≡ tag_of h → v ≡ name_tag t x n g
+tag_of_name t v x n g h j e = e ∙ rw j
 
 -- the search past the tree: one turn, the name, the end
 pub find_step : (t b : List ℕ) (x n g k left z : ℕ) (f : Bool) → 0 < left → lookup t b x n g k left ≡ z → f ≡ named_at t b k x n g → f ≡ false
@@ -115,10 +115,10 @@ unfolding descent_from
 descent_end t b end x n g at bits zero w h e = e
 descent_end t b end x n g at bits (suc left) w h e = absurd (omega arith)
 
-pub descent_all : (t b : List ℕ) (st : List ℕ) (end x n g c at bits : ℕ) (w : Descent) → end ≡ known b st → at ≡ root_in st - 1 → c ≡ sigil_code g → bits ≡ hash_of t x c n
+pub descent_all : (t b : List ℕ) (st : List ℕ) (end x n g at bits : ℕ) (w : Descent) → end ≡ known b st → at ≡ root_in st - 1 → bits ≡ hash_of t x (sigil_code g) n
     → w ≡ descent_from t b end x n g (descent at bits) end → w ≡ descent_to t b st x n g
 unfolding descent_to
-descent_all t b st end x n g c at bits w i j k l e = e ∙ rw (l, k, j, i)
+descent_all t b st end x n g at bits w i j l e = e ∙ rw (l, j, i)
 
 both_room : (f g : Bool) (n room : ℕ) → (f ≡ true → n < room) → both f g ≡ true → n < room
 both_room true g n room h e = h refl

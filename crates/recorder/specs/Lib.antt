@@ -6,3 +6,5 @@ pub mod Marks
 pub mod Closing
 pub mod Layout
 pub mod Mem
+pub mod Calls
+pub mod CodeGen

@@ -7,7 +7,7 @@ use Rattle.recorder.specs.Word.{pick, both, kind, kind_at, payload_at, range_at,
 use Rattle.recorder.specs.Name.{upper, same_name}
 use Rattle.recorder.specs.Layout.{rec_size, note_size, entry_size, range_word_at, arg_a, arg_b, arg_c, extra_at, most_records}
 use Rattle.recorder.specs.Ideal.{Rec, rec, name_kind, no_range, look_of, first_of}
-use Rattle.recorder.specs.Recorder.{Recorder, Look, unknown}
+use Rattle.recorder.specs.Recorder.{Recorder, Named, Look, unknown}
 use Rattle.recorder.specs.Closing.{is_while, is_wend, is_start, is_end, is_one, is_for, is_next_of, round_up}
 
 pub record Mem : Type 0 where
@@ -409,26 +409,72 @@ finish p = passed (put_rec (convert_delays p.list p.st) p.st 2 no_range 17 0 0) 
 unfoldable pub clean_up_all : List ℕ → List ℕ → List ℕ → Passed
 clean_up_all l n s = finish (patch_whiles l n s)
 
+-- what each function of the recorder does to the memory
+abbrev pub begin_line : Mem → ℕ → Mem
+begin_line m l = mem m.list m.notes m.book (on_line m.st l)
+
+abbrev pub put : Mem → ℕ → Range → ℕ → ℕ → ℕ → Mem
+put m k r a b c = mem (put_rec m.list m.st k r a b c) m.notes m.book (put_st m.list m.st)
+
+abbrev pub current_addr : Mem → ℕ
+current_addr m = as_word (records_in m.st)
+
+abbrev pub put_note : Mem → ℕ → ℕ → ℕ → Mem
+put_note m h r v = mem m.list (note_list m.notes m.st h r v) m.book (note_st m.notes m.st)
+
+abbrev pub note_at : Mem → ℕ → ℕ → Range → ℕ → Mem
+note_at m l k r v = put_note m (word_of k l) (range_word r) v
+
+abbrev pub note : Mem → ℕ → Range → ℕ → Mem
+note m k r v = note_at m (line_in m.st) k r v
+
+abbrev pub put_entry : Mem → ℕ → ℕ → ℕ → ℕ → Mem
+put_entry m h x y z = mem m.list m.notes (entry_list m.book m.st h x y z) (entry_st m.book m.st)
+
+abbrev pub new_symbol : Mem → Descent → ℕ → ℕ → ℕ → ℕ → Mem
+new_symbol m w v x n g = mem m.list m.notes (new_list m.book m.st w v x n g) (new_st m.book m.st)
+
+abbrev pub make_symbol : List ℕ → Mem → ℕ → ℕ → ℕ → Named Mem
+make_symbol t m x n g = record {
+  state = mem m.list m.notes (symbol_list t m.book m.st x n g) (symbol_st t m.book m.st x n g);
+  number = symbol_number t m.book m.st x n g;
+}
+
+abbrev pub emit_datum : Mem → ℕ → ℕ → ℕ → Mem
+emit_datum m x n q = mem m.list m.notes (datum_list m.book m.st x n q) (datum_st m.book m.st)
+
+abbrev pub first_datum : Mem → ℕ
+first_datum m = as_word (first_in m.st)
+
+abbrev pub load_byte : Mem → ℕ → ℕ → ℕ → Mem
+load_byte m x n v = mem m.list m.notes (byte_list m.book m.st x n v) (byte_st m.book m.st)
+
+abbrev pub next_byte : Mem → ℕ
+next_byte m = low (bytes_in m.st)
+
+abbrev pub patched : (List ℕ → List ℕ) → Mem → ℕ → Mem
+patched f m k = mem (on_rec f m.list m.st k) m.notes m.book m.st
+
+abbrev pub clean_up : Mem → Mem
+clean_up m = mem (clean_up_all m.list m.notes m.st).list (clean_up_all m.list m.notes m.st).notes (unlinked m.book m.st) (clean_up_all m.list m.notes m.st).st
+
 -- the memory's recorder
 abbrev pub mem_r : List ℕ → Recorder Mem
 mem_r t = record {
-  begin_line = λ m l. mem m.list m.notes m.book (on_line m.st l);
-  emit = λ m k r a b c. mem (put_rec m.list m.st k r a b c) m.notes m.book (put_st m.list m.st);
-  count = λ m. as_word (records_in m.st);
-  note = λ m k r v. mem m.list (note_list m.notes m.st (word_of k (line_in m.st)) (range_word r) v) m.book (note_st m.notes m.st);
-  note_at = λ m l k r v. mem m.list (note_list m.notes m.st (word_of k l) (range_word r) v) m.book (note_st m.notes m.st);
-  symbol = λ m x n g. record {
-    state = mem m.list m.notes (symbol_list t m.book m.st x n g) (symbol_st t m.book m.st x n g);
-    number = symbol_number t m.book m.st x n g;
-  };
-  datum = λ m x n q. mem m.list m.notes (datum_list m.book m.st x n q) (datum_st m.book m.st);
-  first_datum = λ m. as_word (first_in m.st);
-  byte = λ m x n v. mem m.list m.notes (byte_list m.book m.st x n v) (byte_st m.book m.st);
-  next_byte = λ m. low (bytes_in m.st);
-  patch = λ m k v. mem (on_rec (set_a v) m.list m.st k) m.notes m.book m.st;
-  patch_end = λ m k v. mem (on_rec (set_c v) m.list m.st k) m.notes m.book m.st;
+  begin_line = begin_line;
+  emit = put;
+  count = current_addr;
+  note = note;
+  note_at = note_at;
+  symbol = make_symbol t;
+  datum = emit_datum;
+  first_datum = first_datum;
+  byte = load_byte;
+  next_byte = next_byte;
+  patch = λ m k v. patched (set_a v) m k;
+  patch_end = λ m k v. patched (set_c v) m k;
   look = λ m k. look_at m.list k;
-  settle = λ m k v. mem (on_rec (settle_args v) m.list m.st k) m.notes m.book m.st;
-  drop_label = λ m k. mem (on_rec clear_args m.list m.st k) m.notes m.book m.st;
-  clean_up = λ m. mem (clean_up_all m.list m.notes m.st).list (clean_up_all m.list m.notes m.st).notes (unlinked m.book m.st) (clean_up_all m.list m.notes m.st).st;
+  settle = λ m k v. patched (settle_args v) m k;
+  drop_label = λ m k. patched clear_args m k;
+  clean_up = clean_up;
 }

@@ -54,3 +54,8 @@ range_word r = 16777216 + r.start * 4096 + r.end
 -- "03 label, 0 to 65,535"
 abbrev pub label_at : List ℕ → ℕ → ℕ
 label_at s at = get_or s at 0 % 65536
+
+-- a flag in a word: 0 or 1
+abbrev pub flag_of : Bool → ℕ
+flag_of true = 1
+flag_of false = 0

@@ -1,12 +1,15 @@
 // The recorder of codegen.rs, over lent words: records in the list, notes, entries in the book.
 // What does not fit changes no word and sets its buffer's flag, which stays.
-ghost use Rattle.std.specs.Prelude.{◌≡◌, ◌+◌, ◌*◌, ◌-◌, ◌/◌, ◌%◌, min, ltb, eqb, length, get_or, replicate};
-ghost use Rattle.recorder.specs.Word.{pick, both, word_of, range_word};
+ghost use Rattle.std.specs.Prelude.{◌≡◌, ◌+◌, ◌*◌, ◌-◌, ◌/◌, ◌%◌, Some, None, min, ltb, eqb, length, get_or, set, replicate};
+ghost use Rattle.recorder.specs.Word.{pick, both, payload_at, word_of, range_word};
 ghost use Rattle.recorder.specs.Name.{upper, same_units, same_name};
 ghost use Rattle.recorder.specs.Ideal.{first_of};
 ghost use Rattle.recorder.specs.Layout.{entry_size, extra_at, most_records};
-ghost use Rattle.recorder.specs.Mem.{sigil_code, link_of, with_link, known, named_at, hash_step, hash_of, descent_to, linked_at, linked, records_in, entries_in, names_in, root_in, bytes_in, line_in, first_in, on_line, as_word, four, low, more, put_st, put_rec, note_list, note_st, entry_list, entry_st, is_name_entry, tag_of, name_tag, tagged_at, lookup, entry_of, new_list, new_st, symbol_number, symbol_list, symbol_st, datum_list, datum_st, byte_list, byte_st, on_rec, set_a, set_b, set_c, settle_args, clear_args, look_at};
+ghost use Rattle.recorder.specs.Calls.{class_number, severity_of};
+ghost use Rattle.recorder.specs.Mem.{names_in, sigil_code, link_of, with_link, known, named_at, hash_step, hash_of, descent_to, linked_at, linked, root_in, low, more, four, is_name_entry, tag_of, name_tag, tagged_at, lookup, entry_of, set_a, set_c, settle_args, clear_args, look_at, begin_line, put, put_note, note, note_at, put_entry, new_symbol, make_symbol, emit_datum, load_byte, next_byte, first_datum, current_addr, patched};
+ghost use Rattle.recorder.specs.CodeGen.{mem_of, SameLoans, look_is, emit};
 
+use crate::call::{Call, Class};
 use crate::label::{Addr, DatumIndex};
 use crate::word::{
     Range, behind_unit, kind_at, kind_of, payload_at, range_word, unit_at, word_at, word_of,
@@ -28,9 +31,9 @@ pub const C: usize = 4;
 
 pub const EXTRA: usize = 3;
 
-// The state is so many numbers, lent, each with its place: the counts of records, notes, entries and names, the first name's
+// The state is so many numbers, each with its place: the counts of records, notes, entries and names, the first name's
 // entry plus 1 (0 without one), the counts of data and bytes, the current line with its first datum plus 1 (0 while it has none),
-// and, 0 or 1, whether a record, a note or an entry did not fit. So a state is one register, and what changes is written once.
+// and, 0 or 1, whether a record, a note or an entry did not fit.
 pub const CELLS: usize = 12;
 
 pub type St = [usize; CELLS];
@@ -58,6 +61,23 @@ pub const LIST_FULL: usize = 9;
 pub const NOTES_FULL: usize = 10;
 
 pub const BOOK_FULL: usize = 11;
+
+// The buffers that are compiled into, and what is in them.
+#[derive(Drop)]
+pub struct CodeGen<'a> {
+    pub list: &'a mut [u32],
+    pub notes: &'a mut [u32],
+    pub book: &'a mut [u32],
+    pub st: St,
+}
+
+// A name: where its units start in the text, how many they are before its sigil, and the sigil's unit or 0.
+#[derive(Clone, Copy)]
+pub struct Name {
+    pub start: u32,
+    pub len: u32,
+    pub sigil: u32,
+}
 
 // On the descent to a name: an entry of the tree, and the bits of the name's hash that are left, the next one the highest.
 #[derive(Clone, Copy)]
@@ -91,13 +111,6 @@ pub struct Looked {
     pub c: u32,
 }
 
-pub fn begin_line(st: &mut St, line: u32)
-    ensures { st.new ≡ on_line st.old line }
-{
-    st[LINE] = line as usize;
-    st[FIRST] = 0;
-}
-
 // So many records fit into so many words.
 pub fn most_records(words: usize) -> usize
     ensures { result ≡ most_records words }
@@ -119,27 +132,6 @@ fn one_more(n: usize, room: usize) -> usize
     if n < room { n + 1 } else { n }
 }
 
-// A record: its call, the current line, its range, three arguments.
-#[tactic(auto, unfolding(crate::specs::Mem::put_list, crate::specs::Mem::put_st))]
-pub fn put(list: &mut [u32], st: &mut St, call: u8, r: Range, a: u32, b: u32, c: u32)
-    ensures { (list.new ≡ put_rec list.old st.old call r a b c) × (st.new ≡ put_st list.old st.old) }
-{
-    let n = st[RECORDS];
-    let h = word_of(call, low_bits(st[LINE]));
-    let w = range_word(r);
-    if n < most_records(list.len()) {
-        let i = RECORD * n;
-        list[i] = h;
-        list[i + RANGE] = w;
-        list[i + A] = a;
-        list[i + B] = b;
-        list[i + C] = c;
-        st[RECORDS] = n + 1;
-    } else {
-        st[LIST_FULL] = 1;
-    }
-}
-
 // The four words of a note or of an entry.
 fn put_four(s: &mut [u32], n: usize, h: u32, x: u32, y: u32, z: u32) -> bool
     ensures { (s.new ≡ pick (ltb n (length s.old / 4)) (four s.old n h x y z) s.old) × (result ≡ ltb n (length s.old / 4)) }
@@ -153,48 +145,6 @@ fn put_four(s: &mut [u32], n: usize, h: u32, x: u32, y: u32, z: u32) -> bool
         true
     } else {
         false
-    }
-}
-
-#[tactic(auto, unfolding(crate::specs::Mem::note_list, crate::specs::Mem::note_st))]
-pub fn put_note(notes: &mut [u32], st: &mut St, h: u32, w: u32, severity: u32)
-    ensures { (notes.new ≡ note_list notes.old st.old h w severity) × (st.new ≡ note_st notes.old st.old) }
-{
-    let n = st[NOTES];
-    if put_four(notes, n, h, w, severity, 0) {
-        st[NOTES] = n + 1;
-    } else {
-        st[NOTES_FULL] = 1;
-    }
-}
-
-// A note on the current line: 1 error or 2 warning.
-pub fn note(notes: &mut [u32], st: &mut St, class: u8, r: Range, severity: u32)
-    ensures { (notes.new ≡ note_list notes.old st.old (word_of class (line_in st.old)) (range_word r) severity) × (st.new ≡ note_st notes.old st.old) }
-{
-    let h = word_of(class, low_bits(st[LINE]));
-    let w = range_word(r);
-    put_note(notes, st, h, w, severity)
-}
-
-// A note on a line that is named.
-pub fn note_at(notes: &mut [u32], st: &mut St, line: u32, class: u8, r: Range, severity: u32)
-    ensures { (notes.new ≡ note_list notes.old st.old (word_of class line) (range_word r) severity) × (st.new ≡ note_st notes.old st.old) }
-{
-    let h = word_of(class, line);
-    let w = range_word(r);
-    put_note(notes, st, h, w, severity)
-}
-
-#[tactic(auto, unfolding(crate::specs::Mem::entry_list, crate::specs::Mem::entry_st))]
-fn put_entry(book: &mut [u32], st: &mut St, h: u32, x: u32, y: u32, z: u32)
-    ensures { (book.new ≡ entry_list book.old st.old h x y z) × (st.new ≡ entry_st book.old st.old) }
-{
-    let n = st[ENTRIES];
-    if put_four(book, n, h, x, y, z) {
-        st[ENTRIES] = n + 1;
-    } else {
-        st[BOOK_FULL] = 1;
     }
 }
 
@@ -221,10 +171,12 @@ fn same_units(text: &[u16], a: usize, b: usize, n: u32) -> bool
 
 // Lengths and sigils first: the units are read only where both agree, and the first that differs ends it.
 #[tactic(auto, unfolding(crate::specs::Name::same_name))]
-fn same_name(text: &[u16], a: u32, n: u32, x: u32, b: u32, m: u32, y: u32) -> bool
-    ensures { result ≡ same_name text.now a n x b m y }
+fn same_name(text: &[u16], a: u32, n: u32, x: u32, name: &Name) -> bool
+    ensures { result ≡ same_name text.now a n x name.now.start name.now.len (sigil_code name.now.sigil) }
 {
-    n == m && x == y && same_units(&*text, a as usize, b as usize, n)
+    n == name.len
+        && x == sigil_code(name.sigil)
+        && same_units(&*text, a as usize, name.start as usize, n)
 }
 
 // A name's last word: a code of its sigil in the low 2 bits, and two entries of later names.
@@ -275,6 +227,12 @@ fn hash_of(text: &[u16], at: u32, first: u32, n: u32) -> u32
     h
 }
 
+fn name_hash(text: &[u16], name: &Name) -> u32
+    ensures { result ≡ hash_of text.now name.now.start (sigil_code name.now.sigil) name.now.len }
+{
+    hash_of(text, name.start, sigil_code(name.sigil), name.len)
+}
+
 // A name's tag, in its head in place of the kind 50 until closing up: 128 and seven bits of its hash.
 fn tag_of(hash: u32) -> u8
     ensures { result ≡ tag_of hash }
@@ -282,31 +240,21 @@ fn tag_of(hash: u32) -> u8
     (128 + hash / 4096 % 128) as u8
 }
 
-fn name_tag(text: &[u16], start: u32, len: u32, sigil: u32) -> u8
-    ensures { result ≡ name_tag text.now start len sigil }
+fn name_tag(text: &[u16], name: &Name) -> u8
+    ensures { result ≡ name_tag text.now name.now.start name.now.len name.now.sigil }
 {
-    tag_of(hash_of(text, start, sigil_code(sigil), len))
+    tag_of(name_hash(text, name))
 }
 
 // Whether the four words of an entry are a name's, and that name is this one.
-fn is_named(
-    text: &[u16],
-    h: u32,
-    a: u32,
-    n: u32,
-    y: u32,
-    tag: u8,
-    start: u32,
-    len: u32,
-    sigil: u32,
-) -> bool
-    ensures { result ≡ is_name_entry text.now h a n y tag start len sigil }
+fn is_named(text: &[u16], h: u32, a: u32, n: u32, y: u32, tag: u8, name: &Name) -> bool
+    ensures { result ≡ is_name_entry text.now h a n y tag name.now.start name.now.len name.now.sigil }
 {
-    kind_of(h) == tag as u32 && same_name(&*text, a, n, y % 4, start, len, sigil_code(sigil))
+    kind_of(h) == tag as u32 && same_name(&*text, a, n, y % 4, name)
 }
 
-fn named_at(text: &[u16], book: &[u32], k: usize, tag: u8, start: u32, len: u32, sigil: u32) -> bool
-    ensures { result ≡ tagged_at text.now book.now k tag start len sigil }
+fn named_at(text: &[u16], book: &[u32], k: usize, tag: u8, name: &Name) -> bool
+    ensures { result ≡ tagged_at text.now book.now k tag name.now.start name.now.len name.now.sigil }
 {
     if k < book.len() / ENTRY {
         let i = ENTRY * k;
@@ -317,38 +265,11 @@ fn named_at(text: &[u16], book: &[u32], k: usize, tag: u8, start: u32, len: u32,
             book[i + 2],
             book[i + EXTRA],
             tag,
-            start,
-            len,
-            sigil,
+            name,
         )
     } else {
         false
     }
-}
-
-// The first entry from the k-th on that is this name, or how many are known.
-fn find(
-    text: &[u16],
-    book: &[u32],
-    start: u32,
-    len: u32,
-    sigil: u32,
-    from: usize,
-    entries: usize,
-) -> usize
-    ensures { result ≡ lookup text.now book.now start len sigil from (min entries (length book.now / entry_size) - from) }
-{
-    let end = entries.min(book.len() / ENTRY);
-    if end <= from {
-        return from;
-    }
-    let tag = name_tag(&*text, start, len, sigil);
-    for k in from..end {
-        if named_at(&*text, &*book, k, tag, start, len, sigil) {
-            return k;
-        }
-    }
-    end
 }
 
 fn is_high(bits: u32) -> bool
@@ -374,42 +295,6 @@ fn child_of(book: &[u32], at: usize, bits: u32) -> usize
     }
 }
 
-// The descent to a name, up to the name or to where it would be linked.
-fn descent_to(text: &[u16], book: &[u32], st: &St, start: u32, len: u32, sigil: u32) -> Stop
-    ensures { (result.descent ≡ descent_to text.now book.now st.now start len sigil) × (result.named ≡ named_at text.now book.now result.descent.at start len sigil) × (result.tag ≡ name_tag text.now start len sigil) }
-{
-    let end = st[ENTRIES].min(book.len() / ENTRY);
-    let mut at = st[ROOT].saturating_sub(1);
-    let hash = hash_of(&*text, start, sigil_code(sigil), len);
-    let tag = tag_of(hash);
-    let mut bits = hash;
-    for _ in 0..end {
-        let descent = Descent { at, bits };
-        if named_at(&*text, &*book, at, tag, start, len, sigil) {
-            return Stop {
-                descent,
-                named: true,
-                tag,
-            };
-        }
-        let k = child_of(&*book, at, bits);
-        if k <= at || end <= k {
-            return Stop {
-                descent,
-                named: false,
-                tag,
-            };
-        }
-        at = k;
-        bits = next_bits(bits);
-    }
-    Stop {
-        descent: Descent { at, bits },
-        named: named_at(&*text, &*book, at, tag, start, len, sigil),
-        tag,
-    }
-}
-
 fn may_link(entries: usize, room: usize) -> bool
     ensures { result ≡ both (ltb entries room) (ltb entries 32768) }
 {
@@ -428,23 +313,24 @@ fn root_of(root: usize, entries: usize, room: usize) -> usize
 
 // A new name, linked where its descent ends.
 #[tactic(auto, unfolding(crate::specs::Mem::linked_at))]
-fn link(book: &mut [u32], at: usize, bits: u32, k: usize)
-    ensures { book.new ≡ linked_at book.old k (record { at = at; bits = bits }) }
+fn link(book: &mut [u32], descent: &Descent, k: usize)
+    ensures { book.new ≡ linked_at book.old k descent.now }
 {
+    let at = descent.at;
     if at < book.len() / ENTRY {
         let i = ENTRY * at + EXTRA;
-        book[i] = with_link(is_high(bits), word_at(book, i), k);
+        book[i] = with_link(is_high(descent.bits), word_at(book, i), k);
     }
 }
 
 // The same, where there is a tree and it may hold the next entry.
 #[tactic(auto, unfolding(crate::specs::Mem::linked))]
-fn link_next(book: &mut [u32], st: &St, at: usize, bits: u32)
-    ensures { book.new ≡ linked book.old st.now (record { at = at; bits = bits }) }
+fn link_next(book: &mut [u32], st: &St, descent: &Descent)
+    ensures { book.new ≡ linked book.old st.now descent.now }
 {
     if 0 < st[ROOT] {
         if may_link(st[ENTRIES], book.len() / ENTRY) {
-            link(book, at, bits, st[ENTRIES]);
+            link(book, descent, st[ENTRIES]);
         }
     }
 }
@@ -456,280 +342,33 @@ fn is_reached(root: usize, known: usize, at: usize, named: bool) -> bool
     root != 0 && at < known && named
 }
 
-// The entry of a name whose descent ends at `at`, or how many are known.
-#[tactic(auto, unfolding(crate::specs::Mem::entry_of))]
-fn entry_of(
-    text: &[u16],
-    book: &[u32],
-    st: &St,
-    at: usize,
-    named: bool,
-    start: u32,
-    len: u32,
-    sigil: u32,
-) -> usize
-    ensures { result ≡ pick (both (ltb 0 (root_in st.now)) (both (ltb at (known book.now st.now)) named)) at (lookup text.now book.now start len sigil (min (known book.now st.now) 32768) (known book.now st.now - 32768)) }
-{
-    let end = st[ENTRIES].min(book.len() / ENTRY);
-    if is_reached(st[ROOT], end, at, named) {
-        return at;
-    }
-    find(
-        &*text,
-        &*book,
-        start,
-        len,
-        sigil,
-        end.min(32768),
-        st[ENTRIES],
-    )
-}
-
-// The search for a name. Slices go on as `&*` here and in what it calls: a copied one is written in two parts and read as one, for
-// which the processor waits.
-#[tactic(auto, unfolding(crate::specs::Mem::entry_of))]
-fn find_symbol(text: &[u16], book: &[u32], st: &St, start: u32, len: u32, sigil: u32) -> Found
-    ensures { (result.descent ≡ descent_to text.now book.now st.now start len sigil) × (result.entry ≡ entry_of text.now book.now st.now start len sigil) × (result.tag ≡ name_tag text.now start len sigil) }
-{
-    let stop = descent_to(&*text, &*book, st, start, len, sigil);
-    let descent = stop.descent;
-    let at = descent.at;
-    let entry = entry_of(&*text, &*book, st, at, stop.named, start, len, sigil);
-    Found {
-        descent,
-        entry,
-        tag: stop.tag,
-    }
-}
-
-// A new name: linked where its descent ends, and put into the book.
-#[tactic(auto, unfolding(crate::specs::Mem::entry_list, crate::specs::Mem::entry_st, crate::specs::Mem::root_of))]
-fn new_symbol(
-    book: &mut [u32],
-    st: &mut St,
-    at: usize,
-    bits: u32,
-    tag: u8,
-    start: u32,
-    len: u32,
-    sigil: u32,
-) -> u32
-    ensures { (book.new ≡ new_list book.old st.old (record { at = at; bits = bits }) tag start len sigil) × (st.new ≡ new_st book.old st.old) × (result ≡ low (names_in st.old)) }
-{
-    let room = book.len() / ENTRY;
-    link_next(book, st, at, bits);
-    let number = low_bits(st[NAMES]);
-    let names = one_more(st[NAMES], room);
-    let root = root_of(st[ROOT], st[ENTRIES], room);
-    put_entry(
-        book,
-        st,
-        word_of(tag, number),
-        start,
-        len,
-        sigil_code(sigil),
-    );
-    st[NAMES] = names;
-    st[ROOT] = root;
-    number
-}
-
-// The symbol of a name, which is put into the book where it is new.
-#[tactic(auto, unfolding(crate::specs::Mem::symbol_number, crate::specs::Mem::symbol_list, crate::specs::Mem::symbol_st))]
-pub fn make_symbol(
-    text: &[u16],
-    book: &mut [u32],
-    st: &mut St,
-    start: u32,
-    len: u32,
-    sigil: u32,
-) -> u32
-    ensures { (book.new ≡ symbol_list text.now book.old st.old start len sigil) × (st.new ≡ symbol_st text.now book.old st.old start len sigil) × (result ≡ symbol_number text.now book.old st.old start len sigil) }
-{
-    let f = find_symbol(&*text, book, st, start, len, sigil);
-    let descent = f.descent;
-    let k = f.entry;
-    if k < st[ENTRIES].min(book.len() / ENTRY) {
-        let found = payload_at(book, ENTRY * k);
-        return found;
-    }
-    new_symbol(book, st, descent.at, descent.bits, f.tag, start, len, sigil)
-}
-
 fn first_of(first: usize, n: usize) -> usize
     ensures { result ≡ first_of first (low n) }
 {
     if first == 0 { n % 16777216 + 1 } else { first }
 }
 
-// A datum: where it stands in the text, and whether it was quoted.
-#[tactic(auto, unfolding(crate::specs::Mem::datum_list, crate::specs::Mem::datum_st))]
-pub fn emit_datum(book: &mut [u32], st: &mut St, start: u32, len: u32, quoted: u32)
-    ensures { (book.new ≡ datum_list book.old st.old start len quoted) × (st.new ≡ datum_st book.old st.old) }
+// A word of a record, written in the part of the list that begins at the record.
+pub fn set_at(part: &mut [u32], i: usize, v: u32)
+    ensures { part.new ≡ set part.old i v }
 {
-    let number = low_bits(st[DATUMS]);
-    let datums = one_more(st[DATUMS], book.len() / ENTRY);
-    let first = first_of(st[FIRST], st[DATUMS]);
-    put_entry(book, st, word_of(51, number), start, len, quoted);
-    st[DATUMS] = datums;
-    st[FIRST] = first;
-}
-
-// A byte of a LOAD: its literal and its value.
-#[tactic(auto, unfolding(crate::specs::Mem::byte_list, crate::specs::Mem::byte_st))]
-pub fn load_byte(book: &mut [u32], st: &mut St, start: u32, len: u32, value: u32)
-    ensures { (book.new ≡ byte_list book.old st.old start len value) × (st.new ≡ byte_st book.old st.old) }
-{
-    let number = low_bits(st[BYTES]);
-    let bytes = one_more(st[BYTES], book.len() / ENTRY);
-    put_entry(book, st, word_of(52, number), start, len, value);
-    st[BYTES] = bytes;
-}
-
-// The number that the next byte gets.
-pub fn next_byte(st: &St) -> u32
-    ensures { result ≡ low (bytes_in st.now) }
-{
-    low_bits(st[BYTES])
-}
-
-// The current line's first datum plus 1, 0 while it has none.
-pub fn first_datum(st: &St) -> u32
-    ensures { result ≡ as_word (first_in st.now) }
-{
-    (st[FIRST] % 4294967296) as u32
-}
-
-pub fn current_addr(st: &St) -> Addr
-    ensures { result.0 ≡ as_word (records_in st.now) }
-{
-    Addr((st[RECORDS] % 4294967296) as u32)
-}
-
-// A record's arguments, written in the part of the list that begins at the record.
-pub fn set_a(part: &mut [u32], v: u32)
-    ensures { part.new ≡ set_a v part.old }
-{
-    if A < part.len() {
-        part[A] = v;
-    }
-}
-
-pub fn set_b(part: &mut [u32], v: u32)
-    ensures { part.new ≡ set_b v part.old }
-{
-    if B < part.len() {
-        part[B] = v;
-    }
-}
-
-pub fn set_c(part: &mut [u32], v: u32)
-    ensures { part.new ≡ set_c v part.old }
-{
-    if C < part.len() {
-        part[C] = v;
+    if i < part.len() {
+        part[i] = v;
     }
 }
 
 fn clear_args(part: &mut [u32])
     ensures { part.new ≡ clear_args part.old }
 {
-    set_b(part, 0);
-    set_c(part, 0);
+    set_at(part, B, 0);
+    set_at(part, C, 0);
 }
 
 fn settle_args(part: &mut [u32], v: u32)
     ensures { part.new ≡ settle_args v part.old }
 {
-    set_a(part, v);
+    set_at(part, A, v);
     clear_args(part);
-}
-
-// A jump's target: argument a of the record at an address.
-#[tactic(auto, unfolding(crate::specs::Mem::on_rec, crate::specs::Mem::at_rec, crate::specs::Mem::part))]
-pub fn patch_jump_addr(list: &mut [u32], st: &St, at: Addr, target: Addr)
-    ensures { list.new ≡ on_rec (set_a target.0) list.old st.now at.0 }
-{
-    let k = at.0;
-    let v = target.0;
-    let i = k as usize;
-    if i < st[RECORDS] {
-        if i < list.len() / RECORD {
-            let from = RECORD * i;
-            set_a(&mut list[from..], v);
-        }
-    }
-}
-
-// A DEF's end: argument c.
-#[tactic(auto, unfolding(crate::specs::Mem::on_rec, crate::specs::Mem::at_rec, crate::specs::Mem::part))]
-pub fn patch_def_end(list: &mut [u32], st: &St, at: Addr, end: Addr)
-    ensures { list.new ≡ on_rec (set_c end.0) list.old st.now at.0 }
-{
-    let k = at.0;
-    let v = end.0;
-    let i = k as usize;
-    if i < st[RECORDS] {
-        if i < list.len() / RECORD {
-            let from = RECORD * i;
-            set_c(&mut list[from..], v);
-        }
-    }
-}
-
-#[tactic(auto, unfolding(crate::specs::Mem::on_rec, crate::specs::Mem::at_rec, crate::specs::Mem::part))]
-fn settle_at(list: &mut [u32], st: &St, k: u32, v: u32)
-    ensures { list.new ≡ on_rec (settle_args v) list.old st.now k }
-{
-    let i = k as usize;
-    if i < st[RECORDS] {
-        if i < list.len() / RECORD {
-            let from = RECORD * i;
-            settle_args(&mut list[from..], v);
-        }
-    }
-}
-
-// A pending jump that is settled: its target, and its label is gone.
-pub fn settle(list: &mut [u32], st: &St, at: Addr, target: Addr)
-    ensures { list.new ≡ on_rec (settle_args target.0) list.old st.now at.0 }
-{
-    settle_at(list, st, at.0, target.0)
-}
-
-// A pending RESTORE that is settled: its DATA index, and its label is gone.
-pub fn patch_datum_index(list: &mut [u32], st: &St, at: Addr, index: DatumIndex)
-    ensures { list.new ≡ on_rec (settle_args index.0) list.old st.now at.0 }
-{
-    settle_at(list, st, at.0, index.0)
-}
-
-// One whose label is nowhere: only its label is gone.
-#[tactic(auto, unfolding(crate::specs::Mem::on_rec, crate::specs::Mem::at_rec, crate::specs::Mem::part))]
-pub fn drop_label(list: &mut [u32], st: &St, at: Addr)
-    ensures { list.new ≡ on_rec clear_args list.old st.now at.0 }
-{
-    let k = at.0;
-    let i = k as usize;
-    if i < st[RECORDS] {
-        if i < list.len() / RECORD {
-            let from = RECORD * i;
-            clear_args(&mut list[from..]);
-        }
-    }
-}
-
-// What stands at an address.
-pub fn look(list: &[u32], at: Addr) -> Looked
-    ensures { (result.call ≡ (look_at list.now at.0).call) × (result.line ≡ (look_at list.now at.0).line) × (result.b ≡ (look_at list.now at.0).b) × (result.c ≡ (look_at list.now at.0).c) }
-{
-    let from = RECORD * (at.0 as usize);
-    Looked {
-        call: kind_at(list, from),
-        line: payload_at(list, from),
-        b: word_at(list, from + B),
-        c: word_at(list, from + C),
-    }
 }
 
 // Zeros everywhere.
@@ -739,286 +378,370 @@ pub fn clear(s: &mut [u32])
     s.fill(0);
 }
 
-// Calls 1 to 47, by document 01's table. A target or an end that is not yet known is all ones. A pending jump or RESTORE keeps its
-// label plus 1 and the packed range of a note; an IF's jump keeps 0 and 0.
-pub fn emit_no_op(list: &mut [u32], st: &mut St, r: Range)
-    ensures { (list.new ≡ put_rec list.old st.old 1 r 0 0 0) × (st.new ≡ put_st list.old st.old) }
-{
-    put(list, st, 1, r, 0, 0, 0)
-}
+impl CodeGen<'_> {
+    pub fn begin_line(&mut self, line: u32)
+        ensures same { SameLoans self.old self.new }
+        ensures value { mem_of self.new ≡ begin_line (mem_of self.old) line }
+    {
+        self.st[LINE] = line as usize;
+        self.st[FIRST] = 0;
+    }
 
-pub fn emit_op(list: &mut [u32], st: &mut St, r: Range, statement: u32, count: u32)
-    ensures { (list.new ≡ put_rec list.old st.old 2 r statement count 0) × (st.new ≡ put_st list.old st.old) }
-{
-    put(list, st, 2, r, statement, count, 0)
-}
+    // A record: its call, the current line, its range, three arguments.
+    #[tactic(auto, unfolding(crate::specs::Mem::put_list, crate::specs::Mem::put_st))]
+    fn put(&mut self, r: Range, call: u8, a: u32, b: u32, c: u32)
+        ensures same { SameLoans self.old self.new }
+        ensures value { mem_of self.new ≡ put (mem_of self.old) call r a b c }
+    {
+        let n = self.st[RECORDS];
+        let h = word_of(call, low_bits(self.st[LINE]));
+        let w = range_word(r);
+        if n < most_records(self.list.len()) {
+            let i = RECORD * n;
+            self.list[i] = h;
+            self.list[i + RANGE] = w;
+            self.list[i + A] = a;
+            self.list[i + B] = b;
+            self.list[i + C] = c;
+            self.st[RECORDS] = n + 1;
+        } else {
+            self.st[LIST_FULL] = 1;
+        }
+    }
 
-pub fn emit_number(list: &mut [u32], st: &mut St, r: Range, e: u32, m: u32)
-    ensures { (list.new ≡ put_rec list.old st.old 3 r e m 0) × (st.new ≡ put_st list.old st.old) }
-{
-    put(list, st, 3, r, e, m, 0)
-}
+    // The record of a call.
+    #[inline(always)]
+    pub fn emit(&mut self, r: Range, call: Call)
+        ensures same { SameLoans self.old self.new }
+        ensures value { mem_of self.new ≡ emit (mem_of self.old) r call }
+    {
+        let n = call.numbers();
+        self.put(r, n.call, n.a, n.b, n.c)
+    }
 
-pub fn emit_string(list: &mut [u32], st: &mut St, r: Range, start: u32, length: u32)
-    ensures { (list.new ≡ put_rec list.old st.old 4 r start length 0) × (st.new ≡ put_st list.old st.old) }
-{
-    put(list, st, 4, r, start, length, 0)
-}
+    // A note, its range as a word.
+    #[tactic(auto, unfolding(crate::specs::Mem::note_list, crate::specs::Mem::note_st))]
+    pub fn put_note(&mut self, class: Class, line: u32, w: u32)
+        ensures same { SameLoans self.old self.new }
+        ensures value { mem_of self.new ≡ put_note (mem_of self.old) (word_of (class_number class) line) w (severity_of class) }
+    {
+        let n = self.st[NOTES];
+        let h = word_of(class.number(), line);
+        if put_four(self.notes, n, h, w, class.severity(), 0) {
+            self.st[NOTES] = n + 1;
+        } else {
+            self.st[NOTES_FULL] = 1;
+        }
+    }
 
-pub fn emit_var(list: &mut [u32], st: &mut St, r: Range, symbol: u32)
-    ensures { (list.new ≡ put_rec list.old st.old 5 r symbol 0 0) × (st.new ≡ put_st list.old st.old) }
-{
-    put(list, st, 5, r, symbol, 0, 0)
-}
+    // A note on the current line.
+    pub fn note(&mut self, class: Class, r: Range)
+        ensures same { SameLoans self.old self.new }
+        ensures value { mem_of self.new ≡ note (mem_of self.old) (class_number class) r (severity_of class) }
+    {
+        let line = low_bits(self.st[LINE]);
+        self.put_note(class, line, range_word(r))
+    }
 
-pub fn emit_index(list: &mut [u32], st: &mut St, r: Range, symbol: u32, k: u32)
-    ensures { (list.new ≡ put_rec list.old st.old 6 r symbol k 0) × (st.new ≡ put_st list.old st.old) }
-{
-    put(list, st, 6, r, symbol, k, 0)
-}
+    // A note on a line that is named.
+    pub fn note_at(&mut self, line: u32, class: Class, r: Range)
+        ensures same { SameLoans self.old self.new }
+        ensures value { mem_of self.new ≡ note_at (mem_of self.old) line (class_number class) r (severity_of class) }
+    {
+        self.put_note(class, line, range_word(r))
+    }
 
-pub fn emit_var_lvalue(list: &mut [u32], st: &mut St, r: Range, symbol: u32)
-    ensures { (list.new ≡ put_rec list.old st.old 7 r symbol 0 0) × (st.new ≡ put_st list.old st.old) }
-{
-    put(list, st, 7, r, symbol, 0, 0)
-}
+    #[tactic(auto, unfolding(crate::specs::Mem::entry_list, crate::specs::Mem::entry_st))]
+    fn put_entry(&mut self, h: u32, x: u32, y: u32, z: u32)
+        ensures same { SameLoans self.old self.new }
+        ensures value { mem_of self.new ≡ put_entry (mem_of self.old) h x y z }
+    {
+        let n = self.st[ENTRIES];
+        if put_four(self.book, n, h, x, y, z) {
+            self.st[ENTRIES] = n + 1;
+        } else {
+            self.st[BOOK_FULL] = 1;
+        }
+    }
 
-pub fn emit_index_lvalue(list: &mut [u32], st: &mut St, r: Range, symbol: u32, k: u32)
-    ensures { (list.new ≡ put_rec list.old st.old 8 r symbol k 0) × (st.new ≡ put_st list.old st.old) }
-{
-    put(list, st, 8, r, symbol, k, 0)
-}
+    // How many entries the book has.
+    pub fn known(&self) -> usize
+        ensures { result ≡ known self.now.book.now self.now.st }
+    {
+        self.st[ENTRIES].min(self.book.len() / ENTRY)
+    }
 
-pub fn emit_fn_lvalue(list: &mut [u32], st: &mut St, r: Range, function: u32, argument: u32)
-    ensures { (list.new ≡ put_rec list.old st.old 9 r function argument 0) × (st.new ≡ put_st list.old st.old) }
-{
-    put(list, st, 9, r, function, argument, 0)
-}
+    // The number within its kind of an entry that the book has.
+    #[inline(always)]
+    fn number_at(&self, k: usize) -> Option<u32>
+        ensures { result ≡ pick (ltb k (known self.now.book.now self.now.st)) (Some (payload_at self.now.book.now (entry_size * k))) None }
+    {
+        if k < self.known() {
+            Some(payload_at(self.book, ENTRY * k))
+        } else {
+            None
+        }
+    }
 
-pub fn emit_inkey(list: &mut [u32], st: &mut St, r: Range)
-    ensures { (list.new ≡ put_rec list.old st.old 10 r 0 0 0) × (st.new ≡ put_st list.old st.old) }
-{
-    put(list, st, 10, r, 0, 0, 0)
-}
+    // The first entry from the k-th on that is this name, or how many are known.
+    fn find(&self, text: &[u16], name: &Name, from: usize) -> usize
+        ensures { result ≡ lookup text.now self.now.book.now name.now.start name.now.len name.now.sigil from (known self.now.book.now self.now.st - from) }
+    {
+        let end = self.known();
+        if end <= from {
+            return from;
+        }
+        let tag = name_tag(&*text, name);
+        for k in from..end {
+            if named_at(&*text, &*self.book, k, tag, name) {
+                return k;
+            }
+        }
+        end
+    }
 
-pub fn emit_sys_func_call(list: &mut [u32], st: &mut St, r: Range, kind: u32, count: u32)
-    ensures { (list.new ≡ put_rec list.old st.old 11 r kind count 0) × (st.new ≡ put_st list.old st.old) }
-{
-    put(list, st, 11, r, kind, count, 0)
-}
+    // The descent to a name, up to the name or to where it would be linked.
+    fn descent_to(&self, text: &[u16], name: &Name) -> Stop
+        ensures { (result.descent ≡ descent_to text.now self.now.book.now self.now.st name.now.start name.now.len name.now.sigil) × (result.named ≡ named_at text.now self.now.book.now result.descent.at name.now.start name.now.len name.now.sigil) × (result.tag ≡ name_tag text.now name.now.start name.now.len name.now.sigil) }
+    {
+        let end = self.known();
+        let mut at = self.st[ROOT].saturating_sub(1);
+        let hash = name_hash(&*text, name);
+        let tag = tag_of(hash);
+        let mut bits = hash;
+        for _ in 0..end {
+            let descent = Descent { at, bits };
+            if named_at(&*text, &*self.book, at, tag, name) {
+                return Stop {
+                    descent,
+                    named: true,
+                    tag,
+                };
+            }
+            let k = child_of(&*self.book, at, bits);
+            if k <= at || end <= k {
+                return Stop {
+                    descent,
+                    named: false,
+                    tag,
+                };
+            }
+            at = k;
+            bits = next_bits(bits);
+        }
+        Stop {
+            descent: Descent { at, bits },
+            named: named_at(&*text, &*self.book, at, tag, name),
+            tag,
+        }
+    }
 
-pub fn emit_user_func_call(list: &mut [u32], st: &mut St, r: Range, symbol: u32)
-    ensures { (list.new ≡ put_rec list.old st.old 12 r symbol 0 0) × (st.new ≡ put_st list.old st.old) }
-{
-    put(list, st, 12, r, symbol, 0, 0)
-}
+    // The entry of a name whose descent ends at `at`, or how many are known.
+    #[tactic(auto, unfolding(crate::specs::Mem::entry_of))]
+    fn entry_of(&self, text: &[u16], at: usize, named: bool, name: &Name) -> usize
+        ensures { result ≡ pick (both (ltb 0 (root_in self.now.st)) (both (ltb at (known self.now.book.now self.now.st)) named)) at (lookup text.now self.now.book.now name.now.start name.now.len name.now.sigil (min (known self.now.book.now self.now.st) 32768) (known self.now.book.now self.now.st - 32768)) }
+    {
+        let end = self.known();
+        if is_reached(self.st[ROOT], end, at, named) {
+            return at;
+        }
+        self.find(&*text, name, end.min(32768))
+    }
 
-pub fn emit_unary_expr(list: &mut [u32], st: &mut St, r: Range, op: u32)
-    ensures { (list.new ≡ put_rec list.old st.old 13 r op 0 0) × (st.new ≡ put_st list.old st.old) }
-{
-    put(list, st, 13, r, op, 0, 0)
-}
+    // The search for a name. Slices go on as `&*` here and in what it calls: a copied one is written in two parts and read as one, for
+    // which the processor waits.
+    #[tactic(auto, unfolding(crate::specs::Mem::entry_of))]
+    fn find_symbol(&self, text: &[u16], name: &Name) -> Found
+        ensures { (result.descent ≡ descent_to text.now self.now.book.now self.now.st name.now.start name.now.len name.now.sigil) × (result.entry ≡ entry_of text.now self.now.book.now self.now.st name.now.start name.now.len name.now.sigil) × (result.tag ≡ name_tag text.now name.now.start name.now.len name.now.sigil) }
+    {
+        let stop = self.descent_to(&*text, name);
+        let descent = stop.descent;
+        let at = descent.at;
+        let entry = self.entry_of(&*text, at, stop.named, name);
+        Found {
+            descent,
+            entry,
+            tag: stop.tag,
+        }
+    }
 
-pub fn emit_num_binary_expr(list: &mut [u32], st: &mut St, r: Range, op: u32)
-    ensures { (list.new ≡ put_rec list.old st.old 14 r op 0 0) × (st.new ≡ put_st list.old st.old) }
-{
-    put(list, st, 14, r, op, 0, 0)
-}
+    // A new name: linked where its descent ends, and put into the book.
+    #[tactic(auto, unfolding(crate::specs::Mem::entry_list, crate::specs::Mem::entry_st, crate::specs::Mem::root_of))]
+    fn new_symbol(&mut self, descent: &Descent, tag: u8, name: &Name) -> u32
+        ensures same { SameLoans self.old self.new }
+        ensures value { mem_of self.new ≡ new_symbol (mem_of self.old) descent.now tag name.now.start name.now.len name.now.sigil }
+        ensures number { result ≡ low (names_in self.old.st) }
+    {
+        let room = self.book.len() / ENTRY;
+        link_next(self.book, &self.st, descent);
+        let number = low_bits(self.st[NAMES]);
+        let names = one_more(self.st[NAMES], room);
+        let root = root_of(self.st[ROOT], self.st[ENTRIES], room);
+        self.put_entry(
+            word_of(tag, number),
+            name.start,
+            name.len,
+            sigil_code(name.sigil),
+        );
+        self.st[NAMES] = names;
+        self.st[ROOT] = root;
+        number
+    }
 
-pub fn emit_str_binary_expr(list: &mut [u32], st: &mut St, r: Range, op: u32)
-    ensures { (list.new ≡ put_rec list.old st.old 15 r op 0 0) × (st.new ≡ put_st list.old st.old) }
-{
-    put(list, st, 15, r, op, 0, 0)
-}
+    // The symbol of a name, which is put into the book where it is new.
+    #[tactic(auto, unfolding(crate::specs::Mem::symbol_number, crate::specs::Mem::symbol_list, crate::specs::Mem::symbol_st))]
+    pub fn make_symbol(&mut self, text: &[u16], name: &Name) -> u32
+        ensures same { SameLoans self.old self.new }
+        ensures value { mem_of self.new ≡ (make_symbol text.now (mem_of self.old) name.now.start name.now.len name.now.sigil).state }
+        ensures number { result ≡ (make_symbol text.now (mem_of self.old) name.now.start name.now.len name.now.sigil).number }
+    {
+        let f = self.find_symbol(&*text, name);
+        let descent = f.descent;
+        match self.number_at(f.entry) {
+            Some(number) => number,
+            None => self.new_symbol(&descent, f.tag, name),
+        }
+    }
 
-pub fn emit_assign_int(list: &mut [u32], st: &mut St, r: Range)
-    ensures { (list.new ≡ put_rec list.old st.old 16 r 0 0 0) × (st.new ≡ put_st list.old st.old) }
-{
-    put(list, st, 16, r, 0, 0, 0)
-}
+    // A datum: where it stands in the text, and whether it was quoted.
+    #[tactic(auto, unfolding(crate::specs::Mem::datum_list, crate::specs::Mem::datum_st))]
+    pub fn emit_datum(&mut self, start: u32, len: u32, quoted: u32)
+        ensures same { SameLoans self.old self.new }
+        ensures value { mem_of self.new ≡ emit_datum (mem_of self.old) start len quoted }
+    {
+        let number = low_bits(self.st[DATUMS]);
+        let datums = one_more(self.st[DATUMS], self.book.len() / ENTRY);
+        let first = first_of(self.st[FIRST], self.st[DATUMS]);
+        self.put_entry(word_of(51, number), start, len, quoted);
+        self.st[DATUMS] = datums;
+        self.st[FIRST] = first;
+    }
 
-pub fn emit_assign_real(list: &mut [u32], st: &mut St, r: Range)
-    ensures { (list.new ≡ put_rec list.old st.old 17 r 0 0 0) × (st.new ≡ put_st list.old st.old) }
-{
-    put(list, st, 17, r, 0, 0, 0)
-}
+    // A byte of a LOAD: its literal and its value.
+    #[tactic(auto, unfolding(crate::specs::Mem::byte_list, crate::specs::Mem::byte_st))]
+    pub fn load_byte(&mut self, start: u32, len: u32, value: u32)
+        ensures same { SameLoans self.old self.new }
+        ensures value { mem_of self.new ≡ load_byte (mem_of self.old) start len value }
+    {
+        let number = low_bits(self.st[BYTES]);
+        let bytes = one_more(self.st[BYTES], self.book.len() / ENTRY);
+        self.put_entry(word_of(52, number), start, len, value);
+        self.st[BYTES] = bytes;
+    }
 
-pub fn emit_assign_str(list: &mut [u32], st: &mut St, r: Range)
-    ensures { (list.new ≡ put_rec list.old st.old 18 r 0 0 0) × (st.new ≡ put_st list.old st.old) }
-{
-    put(list, st, 18, r, 0, 0, 0)
-}
+    // The number that the next byte gets.
+    pub fn next_byte(&self) -> u32
+        ensures { result ≡ next_byte (mem_of self.now) }
+    {
+        low_bits(self.st[BYTES])
+    }
 
-pub fn emit_jz(list: &mut [u32], st: &mut St, r: Range)
-    ensures { (list.new ≡ put_rec list.old st.old 19 r 4294967295 0 0) × (st.new ≡ put_st list.old st.old) }
-{
-    put(list, st, 19, r, 4294967295, 0, 0)
-}
+    // The current line's first datum plus 1, 0 while it has none.
+    pub fn first_datum(&self) -> u32
+        ensures { result ≡ first_datum (mem_of self.now) }
+    {
+        (self.st[FIRST] % 4294967296) as u32
+    }
 
-pub fn emit_goto(list: &mut [u32], st: &mut St, r: Range, label: u32, packed: u32)
-    ensures { (list.new ≡ put_rec list.old st.old 20 r 4294967295 label packed) × (st.new ≡ put_st list.old st.old) }
-{
-    put(list, st, 20, r, 4294967295, label, packed)
-}
+    pub fn current_addr(&self) -> Addr
+        ensures { result.0 ≡ current_addr (mem_of self.now) }
+    {
+        Addr((self.st[RECORDS] % 4294967296) as u32)
+    }
 
-pub fn emit_gosub(list: &mut [u32], st: &mut St, r: Range, label: u32, packed: u32)
-    ensures { (list.new ≡ put_rec list.old st.old 21 r 4294967295 label packed) × (st.new ≡ put_st list.old st.old) }
-{
-    put(list, st, 21, r, 4294967295, label, packed)
-}
+    // A word of the record at an address, which becomes known.
+    #[tactic(auto, unfolding(crate::specs::Mem::on_rec, crate::specs::Mem::at_rec, crate::specs::Mem::part))]
+    fn patch(&mut self, at: Addr, i: usize, target: Addr)
+        ensures same { SameLoans self.old self.new }
+        ensures value { mem_of self.new ≡ patched (λ p. set p i target.0) (mem_of self.old) at.0 }
+    {
+        let k = at.0 as usize;
+        if k < self.st[RECORDS] {
+            if k < self.list.len() / RECORD {
+                let from = RECORD * k;
+                set_at(&mut self.list[from..], i, target.0);
+            }
+        }
+    }
 
-pub fn emit_on(list: &mut [u32], st: &mut St, r: Range, count: u32)
-    ensures { (list.new ≡ put_rec list.old st.old 22 r count 0 0) × (st.new ≡ put_st list.old st.old) }
-{
-    put(list, st, 22, r, count, 0, 0)
-}
+    // A jump's target: argument a of the record at an address.
+    pub fn patch_jump_addr(&mut self, at: Addr, target: Addr)
+        ensures same { SameLoans self.old self.new }
+        ensures value { mem_of self.new ≡ patched (set_a target.0) (mem_of self.old) at.0 }
+    {
+        self.patch(at, A, target)
+    }
 
-pub fn emit_for(list: &mut [u32], st: &mut St, r: Range, symbol: u32, step: u32)
-    ensures { (list.new ≡ put_rec list.old st.old 23 r symbol step 0) × (st.new ≡ put_st list.old st.old) }
-{
-    put(list, st, 23, r, symbol, step, 0)
-}
+    // A DEF's end: argument c.
+    pub fn patch_def_end(&mut self, at: Addr, end: Addr)
+        ensures same { SameLoans self.old self.new }
+        ensures value { mem_of self.new ≡ patched (set_c end.0) (mem_of self.old) at.0 }
+    {
+        self.patch(at, C, end)
+    }
 
-pub fn emit_next(list: &mut [u32], st: &mut St, r: Range, symbol: u32)
-    ensures { (list.new ≡ put_rec list.old st.old 24 r symbol 0 0) × (st.new ≡ put_st list.old st.old) }
-{
-    put(list, st, 24, r, symbol, 0, 0)
-}
+    #[tactic(auto, unfolding(crate::specs::Mem::on_rec, crate::specs::Mem::at_rec, crate::specs::Mem::part))]
+    fn settle_at(&mut self, k: u32, v: u32)
+        ensures same { SameLoans self.old self.new }
+        ensures value { mem_of self.new ≡ patched (settle_args v) (mem_of self.old) k }
+    {
+        let i = k as usize;
+        if i < self.st[RECORDS] {
+            if i < self.list.len() / RECORD {
+                let from = RECORD * i;
+                settle_args(&mut self.list[from..], v);
+            }
+        }
+    }
 
-pub fn emit_while(list: &mut [u32], st: &mut St, r: Range, start: u32)
-    ensures { (list.new ≡ put_rec list.old st.old 25 r start 4294967295 0) × (st.new ≡ put_st list.old st.old) }
-{
-    put(list, st, 25, r, start, 4294967295, 0)
-}
+    // A pending jump that is settled: its target, and its label is gone.
+    pub fn settle(&mut self, at: Addr, target: Addr)
+        ensures same { SameLoans self.old self.new }
+        ensures value { mem_of self.new ≡ patched (settle_args target.0) (mem_of self.old) at.0 }
+    {
+        self.settle_at(at.0, target.0)
+    }
 
-pub fn begin_def_fn(list: &mut [u32], st: &mut St, r: Range, name: u32, parameter: u32)
-    ensures { (list.new ≡ put_rec list.old st.old 26 r name parameter 4294967295) × (st.new ≡ put_st list.old st.old) }
-{
-    put(list, st, 26, r, name, parameter, 4294967295)
-}
+    // A pending RESTORE that is settled: its DATA index, and its label is gone.
+    pub fn patch_datum_index(&mut self, at: Addr, index: DatumIndex)
+        ensures same { SameLoans self.old self.new }
+        ensures value { mem_of self.new ≡ patched (settle_args index.0) (mem_of self.old) at.0 }
+    {
+        self.settle_at(at.0, index.0)
+    }
 
-pub fn end_def_fn(list: &mut [u32], st: &mut St, r: Range)
-    ensures { (list.new ≡ put_rec list.old st.old 27 r 0 0 0) × (st.new ≡ put_st list.old st.old) }
-{
-    put(list, st, 27, r, 0, 0, 0)
-}
+    // One whose label is nowhere: only its label is gone.
+    #[tactic(auto, unfolding(crate::specs::Mem::on_rec, crate::specs::Mem::at_rec, crate::specs::Mem::part))]
+    pub fn drop_label(&mut self, at: Addr)
+        ensures same { SameLoans self.old self.new }
+        ensures value { mem_of self.new ≡ patched clear_args (mem_of self.old) at.0 }
+    {
+        let i = at.0 as usize;
+        if i < self.st[RECORDS] {
+            if i < self.list.len() / RECORD {
+                let from = RECORD * i;
+                clear_args(&mut self.list[from..]);
+            }
+        }
+    }
 
-pub fn emit_dim(list: &mut [u32], st: &mut St, r: Range, symbol: u32, k: u32)
-    ensures { (list.new ≡ put_rec list.old st.old 28 r symbol k 0) × (st.new ≡ put_st list.old st.old) }
-{
-    put(list, st, 28, r, symbol, k, 0)
-}
+    // The call of the record at an address.
+    pub fn call_at(&self, at: Addr) -> u32
+        ensures { result ≡ (look_at self.now.list.now at.0).call }
+    {
+        kind_at(self.list, RECORD * (at.0 as usize))
+    }
 
-pub fn emit_field(list: &mut [u32], st: &mut St, r: Range, count: u32)
-    ensures { (list.new ≡ put_rec list.old st.old 29 r count 0 0) × (st.new ≡ put_st list.old st.old) }
-{
-    put(list, st, 29, r, count, 0, 0)
-}
-
-pub fn emit_read(list: &mut [u32], st: &mut St, r: Range)
-    ensures { (list.new ≡ put_rec list.old st.old 30 r 0 0 0) × (st.new ≡ put_st list.old st.old) }
-{
-    put(list, st, 30, r, 0, 0, 0)
-}
-
-pub fn emit_restore(list: &mut [u32], st: &mut St, r: Range, label: u32, packed: u32)
-    ensures { (list.new ≡ put_rec list.old st.old 31 r 0 label packed) × (st.new ≡ put_st list.old st.old) }
-{
-    put(list, st, 31, r, 0, label, packed)
-}
-
-pub fn emit_keyboard_input(list: &mut [u32], st: &mut St, r: Range, prompt: u32, count: u32)
-    ensures { (list.new ≡ put_rec list.old st.old 32 r prompt count 0) × (st.new ≡ put_st list.old st.old) }
-{
-    put(list, st, 32, r, prompt, count, 0)
-}
-
-pub fn emit_file_input(list: &mut [u32], st: &mut St, r: Range, count: u32)
-    ensures { (list.new ≡ put_rec list.old st.old 33 r count 0 0) × (st.new ≡ put_st list.old st.old) }
-{
-    put(list, st, 33, r, count, 0, 0)
-}
-
-pub fn emit_open(list: &mut [u32], st: &mut St, r: Range, mode: u32, len: u32)
-    ensures { (list.new ≡ put_rec list.old st.old 34 r mode len 0) × (st.new ≡ put_st list.old st.old) }
-{
-    put(list, st, 34, r, mode, len, 0)
-}
-
-pub fn emit_load_bytes(list: &mut [u32], st: &mut St, r: Range, first: u32, count: u32)
-    ensures { (list.new ≡ put_rec list.old st.old 35 r first count 0) × (st.new ≡ put_st list.old st.old) }
-{
-    put(list, st, 35, r, first, count, 0)
-}
-
-pub fn emit_set_row(list: &mut [u32], st: &mut St, r: Range)
-    ensures { (list.new ≡ put_rec list.old st.old 36 r 0 0 0) × (st.new ≡ put_st list.old st.old) }
-{
-    put(list, st, 36, r, 0, 0, 0)
-}
-
-pub fn emit_set_column(list: &mut [u32], st: &mut St, r: Range)
-    ensures { (list.new ≡ put_rec list.old st.old 37 r 0 0 0) × (st.new ≡ put_st list.old st.old) }
-{
-    put(list, st, 37, r, 0, 0, 0)
-}
-
-pub fn emit_print_num(list: &mut [u32], st: &mut St, r: Range)
-    ensures { (list.new ≡ put_rec list.old st.old 38 r 0 0 0) × (st.new ≡ put_st list.old st.old) }
-{
-    put(list, st, 38, r, 0, 0, 0)
-}
-
-pub fn emit_print_str(list: &mut [u32], st: &mut St, r: Range)
-    ensures { (list.new ≡ put_rec list.old st.old 39 r 0 0 0) × (st.new ≡ put_st list.old st.old) }
-{
-    put(list, st, 39, r, 0, 0, 0)
-}
-
-pub fn emit_print_spc(list: &mut [u32], st: &mut St, r: Range)
-    ensures { (list.new ≡ put_rec list.old st.old 40 r 0 0 0) × (st.new ≡ put_st list.old st.old) }
-{
-    put(list, st, 40, r, 0, 0, 0)
-}
-
-pub fn emit_print_tab(list: &mut [u32], st: &mut St, r: Range)
-    ensures { (list.new ≡ put_rec list.old st.old 41 r 0 0 0) × (st.new ≡ put_st list.old st.old) }
-{
-    put(list, st, 41, r, 0, 0, 0)
-}
-
-pub fn emit_newline(list: &mut [u32], st: &mut St, r: Range)
-    ensures { (list.new ≡ put_rec list.old st.old 42 r 0 0 0) × (st.new ≡ put_st list.old st.old) }
-{
-    put(list, st, 42, r, 0, 0, 0)
-}
-
-pub fn emit_flush(list: &mut [u32], st: &mut St, r: Range)
-    ensures { (list.new ≡ put_rec list.old st.old 43 r 0 0 0) × (st.new ≡ put_st list.old st.old) }
-{
-    put(list, st, 43, r, 0, 0, 0)
-}
-
-pub fn emit_write_num(list: &mut [u32], st: &mut St, r: Range, file: u32, end: u32)
-    ensures { (list.new ≡ put_rec list.old st.old 44 r file end 0) × (st.new ≡ put_st list.old st.old) }
-{
-    put(list, st, 44, r, file, end, 0)
-}
-
-pub fn emit_write_str(list: &mut [u32], st: &mut St, r: Range, file: u32, end: u32)
-    ensures { (list.new ≡ put_rec list.old st.old 45 r file end 0) × (st.new ≡ put_st list.old st.old) }
-{
-    put(list, st, 45, r, file, end, 0)
-}
-
-pub fn emit_pop_num(list: &mut [u32], st: &mut St, r: Range)
-    ensures { (list.new ≡ put_rec list.old st.old 46 r 0 0 0) × (st.new ≡ put_st list.old st.old) }
-{
-    put(list, st, 46, r, 0, 0, 0)
-}
-
-pub fn emit_pop_str(list: &mut [u32], st: &mut St, r: Range)
-    ensures { (list.new ≡ put_rec list.old st.old 47 r 0 0 0) × (st.new ≡ put_st list.old st.old) }
-{
-    put(list, st, 47, r, 0, 0, 0)
+    // What stands at an address.
+    pub fn look(&self, at: Addr) -> Looked
+        ensures { look_is result (look_at self.now.list.now at.0) }
+    {
+        let from = RECORD * (at.0 as usize);
+        Looked {
+            call: kind_at(self.list, from),
+            line: payload_at(self.list, from),
+            b: word_at(self.list, from + B),
+            c: word_at(self.list, from + C),
+        }
+    }
 }

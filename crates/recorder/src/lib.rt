@@ -2,6 +2,7 @@
 // Named after ast/label.rs and vm/codegen.rs of the Rust.
 #![tactic(auto)]
 
+pub mod call;
 pub mod codegen;
 pub mod label;
 pub mod word;

@@ -4,7 +4,7 @@ use mathlib.Core.List.{List}
 use mathlib.Core.Bool.{Bool, true, false}
 use Prim.Native.Nat.{ℕ, suc, ◌+◌, ◌-◌, ◌≤◌, ◌<◌}
 use lib.Dec.{ltb, eqb}
-use borrow.Author.Tests.{lt-ltb, eq-eqb, ne_eqb}
+use borrow.Author.Tests.{lt-ltb}
 use native.Mathlib.Omega.{arith}
 use Rattle.recorder.specs.declared.codegen.Looked.{Looked}
 use Rattle.recorder.specs.Word.{pick, both, either}
@@ -12,7 +12,7 @@ use Rattle.recorder.specs.Recorder.{Look}
 use Rattle.recorder.specs.Ideal.{Search, missing, found}
 use Rattle.recorder.specs.Marks.{Mark, addr_of, data_of}
 use Rattle.recorder.proofs.Bools.{both_false}
-use Rattle.recorder.specs.Mem.{Mem, mem, mem_r, as_word, records_in, passed, clean_up_all, unlinked, on_rec, settle_args, look_at}
+use Rattle.recorder.specs.Mem.{Mem, mem_r, as_word, records_in, patched, settle_args, clean_up, look_at}
 use Rattle.rules.specs.Program.{Lines, settle_by, settle_jump, settle_restore, resolve_labels, resolve_datum_indices, close_up}
 use Rattle.resolution.specs.Looks.{as_look, settle_waiting}
 
@@ -21,8 +21,8 @@ look_is q call line b c p = rw (← p.0, ← p.1, ← p.2, ← p.3)
 
 -- a record whose label is found, and one whose label is nowhere
 module _ (t : List ℕ) (find : ℕ → Search) (class severity k label : ℕ) (q : Looked) (u : Look) (e : u ≡ as_look q) (h : (1 ≤ q.b) × (label ≡ q.b - 1)) where
-  pub settles : (l l' n b : List ℕ) (s : List ℕ) (v : ℕ) → find label ≡ found v → l' ≡ on_rec (settle_args v) l s k → mem l' n b s ≡ settle_waiting t find class severity k u (mem l n b s)
-  settles l l' n b s v z p = rw (e, lt-ltb 0 q.b (omega arith), ← h.1, z, p)
+  pub settles : (m m1 : Mem) (v : ℕ) → find label ≡ found v → m1 ≡ patched (settle_args v) m k → m1 ≡ settle_waiting t find class severity k u m
+  settles m m1 v z p = rw (e, lt-ltb 0 q.b (omega arith), ← h.1, z, p)
 
   pub loses : (m m1 : Mem) → find label ≡ missing → m1 ≡ settle_by (mem_r t) missing class severity k (as_look q) m → m1 ≡ settle_waiting t find class severity k u m
   loses m m1 z p = rw (e, lt-ltb 0 q.b (omega arith), ← h.1, z) p
@@ -60,29 +60,26 @@ indices_step : (t : List ℕ) (ms : List Mark) (k n : ℕ) (m m1 : Mem) → k < 
 unfolding resolve_datum_indices
 indices_step t ms k n m m1 h p = let e : n - k ≡ suc (n - (k + 1)) = omega arith in rw (e, p)
 
-pub indices_restore : (t : List ℕ) (ms : List Mark) (k n call : ℕ) (m m1 : Mem) → k < n → call ≡ (look_at m.list k).call → call ≡ 31
+pub indices_restore : (t : List ℕ) (ms : List Mark) (k n call : ℕ) (c : Bool) (m m1 : Mem) → k < n → call ≡ (look_at m.list k).call → c ≡ eqb call 31 → c ≡ true
     → m1 ≡ settle_waiting t (data_of ms) 3 2 k (look_at m.list k) m → resolve_datum_indices (mem_r t) ms (k + 1) (n - (k + 1)) m1 ≡ resolve_datum_indices (mem_r t) ms k (n - k) m
-indices_restore t ms k n call m m1 h e f p =
-    indices_step t ms k n m m1 h (of_kind (ltb 0 (look_at m.list k).b) (eqb (look_at m.list k).call 31) m m1 _ (eq-eqb (look_at m.list k).call 31 (inv e ∙ f)) p)
+indices_restore t ms k n call c m m1 h e f g p =
+    indices_step t ms k n m m1 h (of_kind (ltb 0 (look_at m.list k).b) (eqb (look_at m.list k).call 31) m m1 _ (rw (← e, ← f) g) p)
 
-pub indices_other : (t : List ℕ) (ms : List Mark) (k n call : ℕ) (m : Mem) → k < n → call ≡ (look_at m.list k).call → (call ≡ 31 → ⊥)
+pub indices_other : (t : List ℕ) (ms : List Mark) (k n call : ℕ) (c : Bool) (m : Mem) → k < n → call ≡ (look_at m.list k).call → c ≡ eqb call 31 → c ≡ false
     → resolve_datum_indices (mem_r t) ms (k + 1) (n - (k + 1)) m ≡ resolve_datum_indices (mem_r t) ms k (n - k) m
-indices_other t ms k n call m h e f =
-    indices_step t ms k n m m h (of_none (ltb 0 (look_at m.list k).b) (eqb (look_at m.list k).call 31) m _ (ne_eqb (look_at m.list k).call 31 (λ z. f (e ∙ z))))
+indices_other t ms k n call c m h e f g =
+    indices_step t ms k n m m h (of_none (ltb 0 (look_at m.list k).b) (eqb (look_at m.list k).call 31) m _ (rw (← e, ← f) g))
 
 pub indices_done : (t : List ℕ) (ms : List Mark) (k n : ℕ) (m m1 : Mem) → n ≤ k → resolve_datum_indices (mem_r t) ms k (n - k) m ≡ m1 → m ≡ m1
 unfolding resolve_datum_indices
 indices_done t ms k n m m1 h p = let e : n - k ≡ 0 = omega arith in inv (ap (λ (z : ℕ). resolve_datum_indices (mem_r t) ms k z m) e) ∙ p
 
-clean_mem : (t l l' n n' b b' : List ℕ) (s s' : List ℕ) → passed l' n' s' ≡ clean_up_all l n s → b' ≡ unlinked b s → mem l' n' b' s' ≡ (mem_r t).clean_up (mem l n b s)
-clean_mem t l l' n n' b b' s s' e f = rw (← e, f)
-
-pub closed : (t : List ℕ) (c : Lines Mem) (l n b l1 n1 l2 n2 l3 n3 b3 : List ℕ) (s s1 s2 s3 : List ℕ) → c.state ≡ mem l n b s
-    → mem l1 n1 b s1 ≡ resolve_labels (mem_r t) c.marks 0 (as_word (records_in s)) (mem l n b s)
-    → mem l2 n2 b s2 ≡ resolve_datum_indices (mem_r t) c.marks 0 (as_word (records_in s1)) (mem l1 n1 b s1) → b3 ≡ unlinked b s2 → passed l3 n3 s3 ≡ clean_up_all l2 n2 s2
-    → mem l3 n3 b3 s3 ≡ close_up (mem_r t) c
+pub closed : (t : List ℕ) (c : Lines Mem) (m m1 m2 m3 : Mem) → c.state ≡ m
+    → m1 ≡ resolve_labels (mem_r t) c.marks 0 (as_word (records_in m.st)) m
+    → m2 ≡ resolve_datum_indices (mem_r t) c.marks 0 (as_word (records_in m1.st)) m1 → m3 ≡ clean_up m2
+    → m3 ≡ close_up (mem_r t) c
 unfolding close_up
-closed t c l n b l1 n1 l2 n2 l3 n3 b3 s s1 s2 s3 e p1 p2 o p3 =
-    let q1 : mem l1 n1 b s1 ≡ resolve_labels (mem_r t) c.marks 0 ((mem_r t).count c.state) c.state = rw e p1 in
+closed t c m m1 m2 m3 e p1 p2 p3 =
+    let q1 : m1 ≡ resolve_labels (mem_r t) c.marks 0 ((mem_r t).count c.state) c.state = rw e p1 in
     let q2 = p2 ∙ ap (λ (z : Mem). resolve_datum_indices (mem_r t) c.marks 0 ((mem_r t).count z) z) q1 in
-    clean_mem t l2 l3 n2 n3 b b3 s2 s3 p3 o ∙ ap (mem_r t).clean_up q2
+    p3 ∙ ap (mem_r t).clean_up q2

@@ -65,3 +65,21 @@ held_outcome s t L =
     let m = sim_start t L.list L.notes L.book in
     held_sized L (finished s t) (length (compiled s t).state.records) (mem_lines s t L).state (close_up (mem_r t) (mem_lines s t L))
     (records_held (sim_lines σ t (program_at s) (sim_first σ t m)).goes.sim) (closed_length t (compiled s t)) (sim_program σ t (program_at s) m)
+
+-- the buffers of a memory are as long as the lent ones
+pub record Long (L : Lengths) (m : Mem) : Type 0 where
+  pub list : length m.list ≡ L.list
+  pub notes : length m.notes ≡ L.notes
+  pub book : length m.book ≡ L.book
+
+pub lines_long : (s t : List ℕ) (L : Lengths) → Long L (mem_lines s t L).state
+lines_long s t L =
+    let σ = memory_simulates L.list L.notes L.book t in
+    let m = (sim_lines σ t (program_at s) (sim_first σ t (sim_start t L.list L.notes L.book))).goes.sim in
+    record { list = m.listed.long; notes = m.noted.long; book = m.booked.long }
+
+pub closed_long : (s t : List ℕ) (L : Lengths) → Room L.list (mem_lines s t L).state → Long L (close_up (mem_r t) (mem_lines s t L))
+closed_long s t L r =
+    let σ = memory_simulates L.list L.notes L.book t in
+    let d = sim_program σ t (program_at s) (sim_start t L.list L.notes L.book) r in
+    record { list = d.long; notes = d.noted.long; book = d.booked.long }

@@ -1,6 +1,6 @@
 -- Compiling keeps a simulation, for any two recorders: statements.
 use Rattle.std.proofs.Common.{◌≡◌, ℕ, zero, suc, ◌+◌, Bool, true, false, eqb, ltb, List, [], ◌∷◌, length, refl}
-use Rattle.recorder.specs.Word.{pick, both, either}
+use Rattle.recorder.specs.Word.{pick, both, either, flag_of}
 use Rattle.recorder.specs.declared.word.Range.{Range}
 use Rattle.recorder.specs.Recorder.{Recorder, unknown}
 use Rattle.simulation.proofs.Hide.{fresh}
@@ -11,7 +11,7 @@ use Rattle.rules.specs.declared.types.«Type».TheVariants.{Integer, Real, Strin
 use Rattle.rules.specs.Types.{matches_type, exact_matches}
 use Rattle.rules.specs.Tables.{draw_arity, drawn, operand, signature_of, wanted, every_real, spc}
 use Rattle.rules.specs.Expr.{Sym, text_size, add_error}
-use Rattle.rules.specs.Stmt.{byte_of, is_ident, datum_length, target_label, target_range, label_or0, is_value, is_file, next_range, is_tab_spc, flag_of, is_last, surplus_notes, draw_node, datum_node, compile_data, end_def, def_node, compile_def, dim_node, dim_one, compile_dim, place_typed, compile_fields, compile_field, compile_step, for_node, compile_for, pending_jump, compile_go, compile_restore, input_arg_by, fn_place, fn_input, input_var, input_vars, input_source, compile_input, assign_call, assign_node, compile_let, bad_byte, bad_bytes, all_bytes, load_byte, load_bytes, load_node, compile_load, locate_part, compile_locate, next_by, next_one, next_each, compile_next, on_jumps, compile_on, open_node, compile_open, tab_call, print_value, behind_value, print_one, print_each, empty_line, compile_print, compile_read, compile_swap, compile_while, write_value, write_each, compile_write, end_here, compile_stmt, compile_stmts}
+use Rattle.rules.specs.Stmt.{byte_of, is_ident, datum_length, target_label, target_range, label_or0, is_value, is_file, next_range, is_tab_spc, is_last, surplus_notes, draw_node, datum_node, compile_data, end_def, def_node, compile_def, dim_node, dim_one, compile_dim, place_typed, compile_fields, compile_field, compile_step, for_node, compile_for, pending_jump, compile_go, compile_restore, input_arg_by, fn_place, fn_input, input_var, input_vars, input_source, compile_input, assign_call, assign_node, compile_let, bad_byte, bad_bytes, all_bytes, load_byte, load_bytes, load_node, compile_load, locate_part, compile_locate, next_by, next_one, next_each, compile_next, on_jumps, compile_on, open_node, compile_open, tab_call, print_value, behind_value, print_one, print_each, empty_line, compile_print, compile_read, compile_swap, compile_while, write_value, write_each, compile_write, end_here, compile_stmt, compile_stmts}
 use Rattle.rules.proofs.SimExpr.{Goes, GoesNamed, GoesSym, start, over, plain, numbering, numbering_both, placing, noted, pick_goes, number_then, place_then, sim_sym, sim_check, sim_real_sym, sim_text, sim_opt_real_sym, sim_expr, sim_args, sim_typed, sim_lvalue}
 
 -- one of two calls, none of them a WHILE's

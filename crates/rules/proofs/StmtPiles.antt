@@ -1,6 +1,6 @@
 -- The other statements without targets of their own.
 use Rattle.std.proofs.Common.{◌≡◌, ℕ, zero, suc, ◌+◌, ◌≤◌, Bool, true, false, eqb, ltb, ◌⊎◌, List, [], ◌∷◌, ◌++◌, length, get_or, replicate, sym, refl, ap, ◌∙◌, subst, inl, inr, append-nil, arith, eq-eqb, ne_eqb, eqb-true}
-use Rattle.recorder.specs.Word.{pick, both, either}
+use Rattle.recorder.specs.Word.{pick, both, either, flag_of}
 use Rattle.recorder.specs.declared.word.Range.{Range}
 use Rattle.recorder.specs.Recorder.{Recorder, Named, pending_label, pack, unknown}
 use Rattle.recorder.specs.Ideal.{Rec, rec, Entry, byte_kind, Ideal}
@@ -675,13 +675,13 @@ module _ (E : List Entry) (few : Few E) (t : List ℕ) (base : ℕ) where
       er : Range
       er = expr_range d.datum
 
-      written : (n : ℕ) (last : Bool) → (n ≡ 0) ⊎ (n ≡ 1) → (l : ℕ) → Proper p.ty → Plain E (rec (pick (matches_type p.ty Real) 44 45) l er n (Stmt.flag_of last) 0 ∷ []) (kind_of p.ty ∷ below n) (behind n last)
+      written : (n : ℕ) (last : Bool) → (n ≡ 0) ⊎ (n ≡ 1) → (l : ℕ) → Proper p.ty → Plain E (rec (pick (matches_type p.ty Real) 44 45) l er n (flag_of last) 0 ∷ []) (kind_of p.ty ∷ below n) (behind n last)
       written n true (inl e) l x = rw e (screen_step l er p.ty 1 x)
       written n false (inl e) l x = rw e (screen_step l er p.ty 0 x)
       written n true (inr e) l x = rw e (last_step l er p.ty x)
       written n false (inr e) l x = rw e (middle_step l er p.ty x)
 
-      go : (c last : Bool) → (n ≡ 0) ⊎ (n ≡ 1) → Code E 0 i (pick (either last c) (R.emit p.state (pick (matches_type p.ty Real) 44 45) er n (Stmt.flag_of last) 0)
+      go : (c last : Bool) → (n ≡ 0) ⊎ (n ≡ 1) → Code E 0 i (pick (either last c) (R.emit p.state (pick (matches_type p.ty Real) 44 45) er n (flag_of last) 0)
           (R.emit (R.note p.state 11 er 2) (pick (matches_type p.ty Real) 46 47) er 0 0 0)) W (λ xs. Plain E xs (below n) (behind n last))
       go c true q =
           put E {d = 0} {W = W} {A = Typ p.ty} {C = λ xs. Plain E xs (below n) []} a (omega arith) (rec (pick (matches_type p.ty Real) 44 45) p.state.line er n 1 0)

@@ -1,7 +1,7 @@
 -- The end of a WRITE is never missing: every WRITE of an accepted sheet makes a call 44 or 45, and of these calls of the finished list
 -- the last alone has end 1. No other statement makes one.
 use Rattle.std.proofs.Common.{◌≡◌, ℕ, ◌+◌, ◌-◌, ◌≤◌, Bool, true, false, eqb, ltb, List, [], ◌∷◌, ◌++◌, length, sym, refl, ap, ◌∙◌, append_assoc, append-nil, arith, length-append}
-use Rattle.recorder.specs.Word.{pick, either}
+use Rattle.recorder.specs.Word.{pick, either, flag_of}
 use Rattle.recorder.specs.declared.word.Range.{Range}
 use Rattle.recorder.specs.Recorder.{Recorder, unknown}
 use Rattle.recorder.specs.Ideal.{Rec, rec, Ideal, ideal, change, with_a, with_c, Search, missing, found, find_name, symbol_in, symbol_of}
@@ -11,7 +11,7 @@ use Rattle.rules.specs.declared.types.«Type».{«Type» as Ty}
 use Rattle.rules.specs.declared.types.«Type».TheVariants.{Real}
 use Rattle.rules.specs.Types.{matches_type}
 use Rattle.rules.specs.Expr.{compile_expr, compile_typed}
-use Rattle.rules.specs.Stmt.{flag_of, is_last, write_value, write_each, if_jump, else_jump, end_here, compile_stmt, compile_stmts}
+use Rattle.rules.specs.Stmt.{is_last, write_value, write_each, if_jump, else_jump, end_here, compile_stmt, compile_stmts}
 use Rattle.rules.specs.Program.{Lines, label_note, line_begun, first_line, compile_line, compile_lines, close_up}
 use Rattle.rules.specs.Outcome.{Lengths, outcome, compiled, finished}
 use Rattle.rules.specs.Missing.{All, WriteCall, write_call, value_calls, ends_well}

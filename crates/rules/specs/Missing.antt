@@ -3,9 +3,9 @@
 -- Whole.. says that a part of the tree has none of them. Writes.antt has the clause about WRITE on the list that the rules make, where
 -- it never holds.
 use Rattle.std.specs.Prelude.{◌≡◌, ℕ, Bool, true, false, List, [], ◌∷◌, ◌==◌, ◌≢◌}
-use Rattle.recorder.specs.Word.{pick, either}
+use Rattle.recorder.specs.Word.{pick, either, flag_of}
 use Rattle.sheet.specs.Tree.{Opt, absent, given, Expr, ident, string_lit, number_lit, sys_func_call, user_func_call, binary, unary, index, inkey, error, Exprs, none, more, FieldSpec, Len, WriteElement, PrintElement, value, comma, semicolon, InputSource, keyboard, file, Stmt, rem, op₀, op₁, op₂, op₃, draw, set, data_list, def, dim, field, for, go, if_then, if_else, input, assign, load, locate, next_of, on, open_file, print, read, restore, swap, system, while, write, Stmts, end, then, ProgramLine}
-use Rattle.rules.specs.Stmt.{is_last, flag_of}
+use Rattle.rules.specs.Stmt.{is_last}
 
 -- every item of a list
 abbrev pub All : {A : Type 0} → (A → Type 0) → List A → Type 0

@@ -1,6 +1,6 @@
 -- Compiling statements, over any recorder: compile_stmt of compiler.rs and the functions that it calls, in its order.
 use Rattle.std.specs.Prelude.{ℕ, zero, suc, ◌+◌, ◌-◌, ◌*◌, Bool, true, false, List, [], ◌∷◌, length, ◌==◌, nat_le, nat_lt, slice_index}
-use Rattle.recorder.specs.Word.{pick, both, either, next}
+use Rattle.recorder.specs.Word.{pick, both, either, next, flag_of}
 use Rattle.recorder.specs.declared.word.Range.{Range}
 use Rattle.recorder.specs.Recorder.{Recorder, Named, pending_label, pack, unknown}
 use Rattle.sheet.specs.Tree.{Opt, absent, given, Expr, ident, string_lit, number_lit, sys_func_call, user_func_call, binary, unary, index, inkey, error, Exprs, none, more, expr_range, count, Datum, FieldSpec, Target, OnTarget, Len, WriteElement, PrintElement, value, comma, semicolon, InputSource, keyboard, file, Stmt, rem, op₀, op₁, op₂, op₃, draw, set, data_list, def, dim, field, for, go, if_then, if_else, input, assign, load, locate, next_of, on, open_file, print, read, restore, swap, system, while, write, Stmts, end, then}
@@ -135,10 +135,6 @@ is_tab_spc (inkey r) = false
 is_tab_spc (error r) = false
 
 -- compile_write: "11 WRITE value dropped (warning)"
-abbrev pub flag_of : Bool → ℕ
-flag_of true = 1
-flag_of false = 0
-
 abbrev pub is_last : List WriteElement → Bool
 is_last [] = true
 is_last (x ∷ xs) = false

@@ -48,12 +48,6 @@ unfolding stmt_node
 stmt_if s t base left at k r p q x m m1 h e d b = let f : If ≡ shape_of k = sym d ∙ e in
     record { place = rw (over s left at k r p h, ← f) b.place; result = rw (node s left at k r p h, ← f) b.result }
 
-pub else_jump_lem : (l l' l'' : List ℕ) (s s' : List ℕ) (j : ℕ) (r : Range)
-    → ((t n b : List ℕ) (base : ℕ) → mem l' n b s' ≡ else_jump (mem_r t) t base r (mem l n b s))
-    → ((t n b : List ℕ) (base : ℕ) → mem l'' n b s' ≡ end_here (mem_r t) t base j (mem l' n b s'))
-    → (t n b : List ℕ) (base : ℕ) → mem l'' n b s' ≡ end_here (mem_r t) t base j (else_jump (mem_r t) t base r (mem l n b s))
-else_jump_lem l l' l'' s s' j r e f t n b base = f t n b base ∙ ap (λ (m : Mem). end_here (mem_r t) t base j m) (e t n b base)
-
 choose_yes : {A : Type 0} (i : Bool) (f g : ℕ → A) (n : ℕ) → i ≡ true → choose i f g n ≡ f n
 choose_yes i f g n e = rw e
 

@@ -1,11 +1,14 @@
 // compile_stmt and compile_if of compiler.rs: an IF, its branches and their statements call each other; the remaining depth
 // falls.
 ghost use Rattle.std.specs.Prelude.{◌≡◌, List, ℕ};
-ghost use Rattle.recorder.specs.Mem.{mem, mem_r};
+ghost use Rattle.recorder.specs.Mem.{mem_r};
+ghost use Rattle.recorder.specs.CodeGen.{mem_of, SameLoans};
 ghost use Rattle.rules.specs.Stmt.{else_jump, end_here};
 ghost use Rattle.statements.specs.Stmt.{IfHead, IfBody, CompiledStmt, CompiledStmts};
 
-use recorder::codegen::St;
+use nodes::source::Source;
+use recorder::call::Call;
+use recorder::codegen::CodeGen;
 use recorder::label::Addr;
 use recorder::word::Range;
 use rules::types::Type;
@@ -19,131 +22,84 @@ struct Branch {
 }
 
 // The condition, and the jump on zero.
-fn if_head(
-    sheet: &&[u32],
-    text: &&[u16],
-    list: &mut [u32],
-    notes: &mut [u32],
-    book: &mut [u32],
-    st: &mut St,
-    base: u32,
-    at: usize,
-    left: usize,
-    r: Range,
-) -> Branch
-    ensures { IfHead sheet.now.now text.now.now base left r at (mem list.old notes.old book.old st.old) (mem list.new notes.new book.new st.new) result.at result.jump.0 }
+fn if_head(src: &Source, code: &mut CodeGen, at: usize, left: usize, r: Range) -> Branch
+    ensures same { SameLoans code.old code.new }
+    ensures value { IfHead src.now.sheet.now src.now.text.now src.now.base left r at (mem_of code.old) (mem_of code.new) result.at result.jump.0 }
 {
-    let x = expressions::expr::compile_typed(
-        sheet,
-        text,
-        list,
-        notes,
-        book,
-        st,
-        base,
-        at,
-        left,
-        Type::Real,
-    );
-    let jump = recorder::codegen::current_addr(st);
-    recorder::codegen::emit_jz(list, st, r);
+    let x = expressions::expr::compile_typed(src, code, at, left, Type::Real);
+    let jump = code.current_addr();
+    code.emit(r, Call::Jz);
     Branch { at: x, jump }
 }
 
 // The jump at an address goes to here.
-fn end_here(list: &mut [u32], st: &St, jump: Addr)
-    ensures { (t n b : List ℕ) (base : ℕ) → mem list.new n b st.now ≡ end_here (mem_r t) t base jump.0 (mem list.old n b st.now) }
+fn end_here(code: &mut CodeGen, jump: Addr)
+    ensures same { SameLoans code.old code.new }
+    ensures value { (t : List ℕ) (base : ℕ) → mem_of code.new ≡ end_here (mem_r t) t base jump.0 (mem_of code.old) }
 {
-    let here = recorder::codegen::current_addr(st);
-    recorder::codegen::patch_jump_addr(list, st, jump, here);
+    let here = code.current_addr();
+    code.patch_jump_addr(jump, here);
 }
 
 // The jump over the other branch, to which the jump on zero goes.
-fn else_head(list: &mut [u32], st: &mut St, jump: Addr, r: Range)
-    ensures { (t n b : List ℕ) (base : ℕ) → mem list.new n b st.new ≡ end_here (mem_r t) t base jump.0 (else_jump (mem_r t) t base r (mem list.old n b st.old)) }
+fn else_head(code: &mut CodeGen, jump: Addr, r: Range)
+    ensures same { SameLoans code.old code.new }
+    ensures value { (t : List ℕ) (base : ℕ) → mem_of code.new ≡ end_here (mem_r t) t base jump.0 (else_jump (mem_r t) t base r (mem_of code.old)) }
 {
-    recorder::codegen::emit_goto(list, st, r, 0, 0);
-    end_here(list, st, jump);
+    code.emit(r, Call::Goto(0, 0));
+    end_here(code, jump);
 }
 
 #[cycle(stmt_cycle)]
-fn compile_if(
-    sheet: &&[u32],
-    text: &&[u16],
-    list: &mut [u32],
-    notes: &mut [u32],
-    book: &mut [u32],
-    st: &mut St,
-    base: u32,
-    at: usize,
-    left: usize,
-    r: Range,
-) -> usize
-    ensures { IfBody sheet.now.now text.now.now base left r at (mem list.old notes.old book.old st.old) (mem list.new notes.new book.new st.new) result }
+fn compile_if(src: &Source, code: &mut CodeGen, at: usize, left: usize, r: Range) -> usize
+    ensures same { SameLoans code.old code.new }
+    ensures value { IfBody src.now.sheet.now src.now.text.now src.now.base left r at (mem_of code.old) (mem_of code.new) result }
 {
-    let h = if_head(sheet, text, list, notes, book, st, base, at, left, r);
+    let h = if_head(src, code, at, left, r);
     let jump = h.jump;
-    let p = compile_stmts(sheet, text, list, notes, book, st, base, h.at, left);
-    if sheet::leaf::is_absent(*sheet, p) {
-        end_here(list, st, jump);
-        return recorder::word::behind(*sheet, p);
+    let p = compile_stmts(src, code, h.at, left);
+    if sheet::leaf::is_absent(src.sheet, p) {
+        end_here(code, jump);
+        return recorder::word::behind(src.sheet, p);
     }
-    let over = recorder::codegen::current_addr(st);
-    else_head(list, st, jump, r);
-    let y = compile_stmts(sheet, text, list, notes, book, st, base, p, left);
-    end_here(list, st, over);
+    let over = code.current_addr();
+    else_head(code, jump, r);
+    let y = compile_stmts(src, code, p, left);
+    end_here(code, over);
     y
 }
 
 #[cycle(stmt_cycle)]
-pub fn compile_stmt(
-    sheet: &&[u32],
-    text: &&[u16],
-    list: &mut [u32],
-    notes: &mut [u32],
-    book: &mut [u32],
-    st: &mut St,
-    base: u32,
-    at: usize,
-    left: usize,
-) -> usize
-    ensures { CompiledStmt sheet.now.now text.now.now base left at (mem list.old notes.old book.old st.old) (mem list.new notes.new book.new st.new) result }
+pub fn compile_stmt(src: &Source, code: &mut CodeGen, at: usize, left: usize) -> usize
+    ensures same { SameLoans code.old code.new }
+    ensures value { CompiledStmt src.now.sheet.now src.now.text.now src.now.base left at (mem_of code.old) (mem_of code.new) result }
 {
-    let r = expressions::expr::node_range(*sheet, at);
+    let r = expressions::expr::node_range(src.sheet, at);
     if left == 0 {
-        recorder::codegen::emit_no_op(list, st, r);
+        code.emit(r, Call::NoOp);
         return at;
     }
-    let k = recorder::word::payload_at(*sheet, at);
-    let p = recorder::word::behind(*sheet, recorder::word::behind(*sheet, at));
+    let k = recorder::word::payload_at(src.sheet, at);
+    let p = recorder::word::behind(src.sheet, recorder::word::behind(src.sheet, at));
     match walk::shape::shape_of(k) {
-        Shape::If => compile_if(sheet, text, list, notes, book, st, base, p, left - 1, r),
+        Shape::If => compile_if(src, code, p, left - 1, r),
         s => {
             let rest = left - 1;
-            crate::plain::compile_plain(sheet, text, list, notes, book, st, base, p, rest, s, k, r)
+            crate::plain::compile_plain(src, code, p, rest, s, k, r)
         }
     }
 }
 
 // The counted statements at a place.
 #[cycle(stmt_cycle)]
-pub fn compile_stmts(
-    sheet: &&[u32],
-    text: &&[u16],
-    list: &mut [u32],
-    notes: &mut [u32],
-    book: &mut [u32],
-    st: &mut St,
-    base: u32,
-    at: usize,
-    left: usize,
-) -> usize
-    ensures { CompiledStmts sheet.now.now text.now.now base left at (mem list.old notes.old book.old st.old) (mem list.new notes.new book.new st.new) result }
+pub fn compile_stmts(src: &Source, code: &mut CodeGen, at: usize, left: usize) -> usize
+    ensures same { SameLoans code.old code.new }
+    ensures value { CompiledStmts src.now.sheet.now src.now.text.now src.now.base left at (mem_of code.old) (mem_of code.new) result }
 {
-    let c = expressions::expr::read_payload(*sheet, at);
+    let c = expressions::expr::read_payload(src.sheet, at);
     let mut p = c.at;
     for _ in 0..c.value {
-        p = compile_stmt(sheet, text, list, notes, book, st, base, p, left);
+        p = compile_stmt(src, code, p, left);
     }
     p
 }

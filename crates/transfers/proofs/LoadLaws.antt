@@ -18,12 +18,13 @@ use Rattle.rules.specs.declared.types.«Type».TheVariants.{Real}
 use Rattle.rules.specs.Name.{text_place}
 use Rattle.rules.specs.Expr.{compile_typed}
 use Rattle.rules.specs.Stmt.{compile_stmt, ByteRead, fresh, byte_unit, byte_units, final_byte, byte_of, all_given, bad_byte, bad_bytes, all_bytes, load_byte, load_bytes, load_node, compile_load}
-use Rattle.nodes.specs.Compiled.{CompiledTyped, PayloadAt}
+use Rattle.std.specs.Prelude.{Option, Some, None}
+use Rattle.nodes.specs.Compiled.{opt_of, CompiledTyped, PayloadAt}
 use Rattle.expressions.specs.Body.{Body}
 use Rattle.expressions.proofs.Lists.{exprs_step, repeat_step}
 use Rattle.expressions.proofs.ExprLaws.{range_of_lem, how_many_lem}
 use Rattle.transfers.specs.declared.loads.ReadByte.{ReadByte}
-use Rattle.transfers.specs.Parts.{read_of, opt_byte, BytesNoted, Loaded}
+use Rattle.transfers.specs.Parts.{read_of, BytesNoted, Loaded}
 
 -- reading a byte
 units_more : (t : List ℕ) (n at : ℕ) (b : ByteRead) → 0 < n → byte_units t at n b ≡ byte_units t (next t at) (n - 1) (byte_unit b (get_or t at 0))
@@ -43,7 +44,7 @@ units_end t zero at b c h e = e
 units_end t (suc n) at b c h e = absurd (omega arith)
 
 -- an argument
-pub byte_zero : (s t : List ℕ) (base left at : ℕ) → left ≡ 0 → opt_byte 256 ≡ byte_of t base (expr_at s left at)
+pub byte_zero : (s t : List ℕ) (base left at : ℕ) → left ≡ 0 → absent ≡ byte_of t base (expr_at s left at)
 unfolding expr_at
 byte_zero s t base left at e = rw e
 
@@ -53,8 +54,8 @@ unfolding expr_at expr_node
 literal_at s zero at d e = absurd (d refl)
 literal_at s (suc left) at d e = rw e
 
-pub byte_literal : (s t : List ℕ) (base left at k : ℕ) (r : Range) (a n : ℕ) (b : ReadByte) (x : ℕ) → (left ≡ 0 → ⊥) → k ≡ payload_at s at → k ≡ 2 → r ≡ range_at s (next s at) → a ≡ text_place base r.start → n ≡ r.end - r.start
-    → read_of b ≡ byte_units t a n fresh → opt_byte x ≡ final_byte (read_of b) → opt_byte x ≡ byte_of t base (expr_at s left at)
+pub byte_literal : (s t : List ℕ) (base left at k : ℕ) (r : Range) (a n : ℕ) (b : ReadByte) (x : Option ℕ) → (left ≡ 0 → ⊥) → k ≡ payload_at s at → k ≡ 2 → r ≡ range_at s (next s at) → a ≡ text_place base r.start → n ≡ r.end - r.start
+    → read_of b ≡ byte_units t a n fresh → opt_of x ≡ final_byte (read_of b) → opt_of x ≡ byte_of t base (expr_at s left at)
 byte_literal s t base left at k r a n b x d hk e hr ha hn p f =
     let g : payload_at s at ≡ 2 = inv hk ∙ e in
     let q : byte_units t a n fresh ≡ byte_units t (text_place base r.start) (r.end - r.start) fresh = rw (ha, hn) in
@@ -75,7 +76,7 @@ no_literal s t base f g (suc (suc (suc (suc (suc (suc (suc (suc zero)))))))) r p
 no_literal s t base f g (suc (suc (suc (suc (suc (suc (suc (suc (suc zero))))))))) r p h = refl
 no_literal s t base f g (suc (suc (suc (suc (suc (suc (suc (suc (suc (suc k)))))))))) r p h = refl
 
-pub byte_other : (s t : List ℕ) (base left at k : ℕ) → k ≡ payload_at s at → (k ≡ 2 → ⊥) → opt_byte 256 ≡ byte_of t base (expr_at s left at)
+pub byte_other : (s t : List ℕ) (base left at k : ℕ) → k ≡ payload_at s at → (k ≡ 2 → ⊥) → absent ≡ byte_of t base (expr_at s left at)
 unfolding expr_at
 byte_other s t base zero at k hk h = refl
 byte_other s t base (suc left) at k hk h =
@@ -87,38 +88,35 @@ bad_more : (t : List ℕ) (base : ℕ) (e : Expr) (es : Exprs) (m : Mem) → bad
 unfolding bad_bytes
 bad_more t base e es m = refl
 
-pub bad_step : (s t : List ℕ) (base left n at p v : ℕ) (r : Range) (m m1 : Mem) → 0 < n → opt_byte v ≡ byte_of t base (expr_at s left at) → r ≡ range_at s (next s at)
-    → m1 ≡ bad_byte (mem_r t) t base (opt_byte v) r m → p ≡ skip_node s left exprSort at
+pub bad_step : (s t : List ℕ) (base left n at p : ℕ) (v : Option ℕ) (r : Range) (m m1 : Mem) → 0 < n → opt_of v ≡ byte_of t base (expr_at s left at) → r ≡ range_at s (next s at)
+    → m1 ≡ bad_byte (mem_r t) t base (opt_of v) r m → p ≡ skip_node s left exprSort at
     → bad_bytes (mem_r t) t base (args_at s left (n - 1) p) m1
     ≡ bad_bytes (mem_r t) t base (args_at s left n at) m
 bad_step s t base left n at p v r m m1 h hv hr e hp =
     let f : m1 ≡ bad_byte (mem_r t) t base (byte_of t base (expr_at s left at)) (expr_range (expr_at s left at)) m = e ∙ ap (λ z. bad_byte (mem_r t) t base z r m) hv ∙ ap (λ z. bad_byte (mem_r t) t base (byte_of t base (expr_at s left at)) z m) (hr ∙ inv (range_of_lem s left at)) in
     rw (exprs_step s (expr_at s left) (skip_node s left exprSort) n at h, bad_more, f, hp)
 
-pub bad_end : (s t : List ℕ) (base left n k at at₀ : ℕ) (o o₀ : List ℕ) (x x₀ : List ℕ) → n ≤ 0 → skip_repeat s (skip_node s left exprSort) n at ≡ skip_repeat s (skip_node s left exprSort) k at₀
-    → ((l b : List ℕ) → bad_bytes (mem_r t) t base (args_at s left n at) (mem l o b x)
-    ≡ bad_bytes (mem_r t) t base (args_at s left k at₀) (mem l o₀ b x₀))
-    → BytesNoted s t base left k at₀ o₀ x₀ o x at
+pub bad_end : (s t : List ℕ) (base left n k at at₀ : ℕ) (m m₀ : Mem) → n ≤ 0 → skip_repeat s (skip_node s left exprSort) n at ≡ skip_repeat s (skip_node s left exprSort) k at₀
+    → bad_bytes (mem_r t) t base (args_at s left n at) m ≡ bad_bytes (mem_r t) t base (args_at s left k at₀) m₀
+    → BytesNoted s t base left k at₀ m₀ m at
 unfolding exprs_at bad_bytes skip_repeat
-bad_end s t base left zero k at at₀ o o₀ x x₀ h p q = record { place = p; result = q }
-bad_end s t base left (suc n) k at at₀ o o₀ x x₀ h p q = absurd (omega arith)
+bad_end s t base left zero k at at₀ m m₀ h p q = record { place = p; result = q }
+bad_end s t base left (suc n) k at at₀ m m₀ h p q = absurd (omega arith)
 
 all_more : (t : List ℕ) (base : ℕ) (e : Expr) (es : Exprs) → all_bytes (mem_r t) t base (more e es) ≡ all_given (byte_of t base e) (all_bytes (mem_r t) t base es)
 unfolding all_bytes
 all_more t base e es = refl
 
-pub all_step : (s t : List ℕ) (base left n at p v : ℕ) → 0 < n → opt_byte v ≡ byte_of t base (expr_at s left at) → v ≤ 255 → p ≡ skip_node s left exprSort at
+pub all_step : (s t : List ℕ) (base left n at p x : ℕ) (v : Option ℕ) → 0 < n → opt_of v ≡ byte_of t base (expr_at s left at) → v ≡ Some x → p ≡ skip_node s left exprSort at
     → all_bytes (mem_r t) t base (args_at s left (n - 1) p) ≡ all_bytes (mem_r t) t base (args_at s left n at)
-all_step s t base left n at p v h hv i hp =
-    let j : v < 256 = omega (arith, i) in
-    let f : byte_of t base (expr_at s left at) ≡ given v = inv hv ∙ ap (λ z. pick z (given v) absent) (lt-ltb _ _ j) in
+all_step s t base left n at p x v h hv i hp =
+    let f : byte_of t base (expr_at s left at) ≡ given x = inv hv ∙ ap opt_of i in
     rw (exprs_step s (expr_at s left) (skip_node s left exprSort) n at h, all_more, f, hp)
 
-pub all_stop : (s t : List ℕ) (base left n at v : ℕ) (b : Bool) → 0 < n → all_bytes (mem_r t) t base (args_at s left n at) ≡ b
-    → opt_byte v ≡ byte_of t base (expr_at s left at) → 255 < v → false ≡ b
+pub all_stop : (s t : List ℕ) (base left n at : ℕ) (v : Option ℕ) (b : Bool) → 0 < n → all_bytes (mem_r t) t base (args_at s left n at) ≡ b
+    → opt_of v ≡ byte_of t base (expr_at s left at) → v ≡ None → false ≡ b
 all_stop s t base left n at v b h q hv i =
-    let j : 256 ≤ v = omega (arith, i) in
-    let f : byte_of t base (expr_at s left at) ≡ absent = inv hv ∙ ap (λ z. pick z (given v) absent) (le-ltb _ _ j) in
+    let f : byte_of t base (expr_at s left at) ≡ absent = inv hv ∙ ap opt_of i in
     let g : all_bytes (mem_r t) t base (args_at s left n at) ≡ false = rw (exprs_step s (expr_at s left) (skip_node s left exprSort) n at h, all_more, f) in
     inv g ∙ q
 
@@ -131,8 +129,8 @@ load_more : (t : List ℕ) (base : ℕ) (e : Expr) (es : Exprs) (m : Mem) → lo
 unfolding load_bytes
 load_more t base e es m = refl
 
-pub load_step : (s t : List ℕ) (base left n at p v : ℕ) (r : Range) (m m1 : Mem) → 0 < n → opt_byte v ≡ byte_of t base (expr_at s left at) → r ≡ range_at s (next s at)
-    → m1 ≡ load_byte (mem_r t) t base (opt_byte v) r m → p ≡ skip_node s left exprSort at
+pub load_step : (s t : List ℕ) (base left n at p : ℕ) (v : Option ℕ) (r : Range) (m m1 : Mem) → 0 < n → opt_of v ≡ byte_of t base (expr_at s left at) → r ≡ range_at s (next s at)
+    → m1 ≡ load_byte (mem_r t) t base (opt_of v) r m → p ≡ skip_node s left exprSort at
     → load_bytes (mem_r t) t base (args_at s left (n - 1) p) m1
     ≡ load_bytes (mem_r t) t base (args_at s left n at) m
 load_step s t base left n at p v r m m1 h hv hr e hp =
@@ -155,24 +153,24 @@ unfolding load_node exprs_at count
 node_some s t base zero r f g at m h = absurd (h refl)
 node_some s t base (suc n) r f g at m h = let e : count (exprs_at s f g n (g at)) ≡ n = how_many_lem s f g n (g at) in rw e
 
-pub node_bytes : (s t : List ℕ) (base left n : ℕ) (r : Range) (at p first : ℕ) (b : Bool) (l o k o' : List ℕ) (x x' : List ℕ) (m2 m3 : Mem) → (n ≡ 0 → ⊥) → BytesNoted s t base left n at o x o' x' p
-    → b ≡ all_bytes (mem_r t) t base (args_at s left n at) → b ≡ true → first ≡ (mem_r t).next_byte (mem l o' k x')
-    → m2 ≡ load_bytes (mem_r t) t base (args_at s left n at) (mem l o' k x') → m3 ≡ (mem_r t).emit m2 35 r first n 0
-    → Loaded s t base left n r at (mem l o k x) m3 p
-node_bytes s t base left n r at p first b l o k o' x x' m2 m3 h u hb g hf e f =
+pub node_bytes : (s t : List ℕ) (base left n : ℕ) (r : Range) (at p first : ℕ) (b : Bool) (m m1 m2 m3 : Mem) → (n ≡ 0 → ⊥) → BytesNoted s t base left n at m m1 p
+    → b ≡ all_bytes (mem_r t) t base (args_at s left n at) → b ≡ true → first ≡ (mem_r t).next_byte m1
+    → m2 ≡ load_bytes (mem_r t) t base (args_at s left n at) m1 → m3 ≡ (mem_r t).emit m2 35 r first n 0
+    → Loaded s t base left n r at m m3 p
+node_bytes s t base left n r at p first b m m1 m2 m3 h u hb g hf e f =
     let q : all_bytes (mem_r t) t base (args_at s left n at) ≡ true = inv hb ∙ g in
     record {
       place = u.place;
-      result = rw (node_some s t base n r (expr_at s left) (skip_node s left exprSort) at (mem l o k x) h, q, ← u.result l k, f, e, hf);
+      result = rw (node_some s t base n r (expr_at s left) (skip_node s left exprSort) at m h, q, ← u.result, f, e, hf);
     }
 
-pub node_bad : (s t : List ℕ) (base left n : ℕ) (r : Range) (at p : ℕ) (b : Bool) (l o k o' : List ℕ) (x x' : List ℕ) → (n ≡ 0 → ⊥) → BytesNoted s t base left n at o x o' x' p
-    → b ≡ all_bytes (mem_r t) t base (args_at s left n at) → b ≡ false → Loaded s t base left n r at (mem l o k x) (mem l o' k x') p
-node_bad s t base left n r at p b l o k o' x x' h u hb g =
+pub node_bad : (s t : List ℕ) (base left n : ℕ) (r : Range) (at p : ℕ) (b : Bool) (m m1 : Mem) → (n ≡ 0 → ⊥) → BytesNoted s t base left n at m m1 p
+    → b ≡ all_bytes (mem_r t) t base (args_at s left n at) → b ≡ false → Loaded s t base left n r at m m1 p
+node_bad s t base left n r at p b m m1 h u hb g =
     let q : all_bytes (mem_r t) t base (args_at s left n at) ≡ false = inv hb ∙ g in
     record {
       place = u.place;
-      result = rw (node_some s t base n r (expr_at s left) (skip_node s left exprSort) at (mem l o k x) h, q) (u.result l k);
+      result = rw (node_some s t base n r (expr_at s left) (skip_node s left exprSort) at m h, q) u.result;
     }
 
 pub load_empty : (s t : List ℕ) (base left k : ℕ) (r : Range) (at n q : ℕ) (m : Mem) → PayloadAt s at n q → n ≡ 0 → Body s t base left Load k r at m m q

@@ -1,13 +1,13 @@
 -- The contracts' shapes for the parts of OPEN and LOAD.
-use Rattle.std.specs.Prelude.{◌≡◌, List, ℕ, ltb, eqb}
+use Rattle.std.specs.Prelude.{◌≡◌, List, ℕ, eqb}
 use Rattle.recorder.specs.declared.word.Range.{Range}
 use Rattle.recorder.specs.Word.{pick, next, choose}
 use Rattle.recorder.specs.Recorder.{Recorder}
-use Rattle.recorder.specs.Mem.{Mem, mem, mem_r}
+use Rattle.recorder.specs.Mem.{Mem, mem_r}
 use Rattle.sheet.specs.declared.form.Sort.TheVariants.{Expr as exprSort}
 use Rattle.sheet.specs.Form.{is_absent}
 use Rattle.sheet.specs.Skip.{skip_node, skip_repeat}
-use Rattle.sheet.specs.Tree.{Opt, absent, given, opt_at, len_at, args_at}
+use Rattle.sheet.specs.Tree.{opt_at, len_at, args_at}
 use Rattle.transfers.specs.declared.loads.ReadByte.{ReadByte}
 use Rattle.transfers.specs.declared.loads.ReadByte.TheVariants.{Value, Nothing, Plus, Bad}
 use Rattle.rules.specs.Stmt.{ByteRead, fresh, signed, byte_so_far, no_byte, bad_bytes, load_node, open_node}
@@ -27,14 +27,10 @@ read_of Nothing = fresh
 read_of Plus = signed
 read_of Bad = no_byte
 
--- a byte, and 256 or more for none
-abbrev pub opt_byte : ℕ → Opt ℕ
-opt_byte n = pick (ltb n 256) (given n) absent
-
 -- the notes for n arguments of LOAD from a place on
-pub record BytesNoted (s t : List ℕ) (base left n at : ℕ) (o : List ℕ) (st : List ℕ) (o' : List ℕ) (st' : List ℕ) (p : ℕ) : Type 0 where
+pub record BytesNoted (s t : List ℕ) (base left n at : ℕ) (m m' : Mem) (p : ℕ) : Type 0 where
   pub place : p ≡ skip_repeat s (skip_node s left exprSort) n at
-  pub result : (l b : List ℕ) → mem l o' b st' ≡ bad_bytes (mem_r t) t base (args_at s left n at) (mem l o b st)
+  pub result : m' ≡ bad_bytes (mem_r t) t base (args_at s left n at) m
 
 -- LOAD behind its first argument, n being left
 pub record Loaded (s t : List ℕ) (base left n : ℕ) (r : Range) (at : ℕ) (m m' : Mem) (p : ℕ) : Type 0 where

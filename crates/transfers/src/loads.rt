@@ -1,12 +1,16 @@
 // compile_load of compiler.rs.
 ghost use Rattle.std.specs.Prelude.{◌≡◌, List, ℕ};
-ghost use Rattle.recorder.specs.Mem.{mem, mem_r};
+ghost use Rattle.recorder.specs.Mem.{mem_r};
+ghost use Rattle.recorder.specs.CodeGen.{mem_of, SameLoans};
 ghost use Rattle.sheet.specs.Tree.{expr_at, args_at};
 ghost use Rattle.rules.specs.Stmt.{fresh, up_to255, digit, plus, byte_unit, byte_units, final_byte, byte_of, bad_byte, all_bytes, load_byte, load_bytes};
+ghost use Rattle.nodes.specs.Compiled.{opt_of};
 ghost use Rattle.expressions.specs.Body.{Body};
-ghost use Rattle.transfers.specs.Parts.{read_of, opt_byte, BytesNoted, Loaded};
+ghost use Rattle.transfers.specs.Parts.{read_of, BytesNoted, Loaded};
 
-use recorder::codegen::St;
+use nodes::source::Source;
+use recorder::call::{Call, Class};
+use recorder::codegen::CodeGen;
 use recorder::word::Range;
 use rules::types::Type;
 use sheet::form::{Shape, Sort};
@@ -73,137 +77,114 @@ fn byte_units(text: &[u16], at: usize, n: u32) -> ReadByte
     b
 }
 
-// The byte that was read, and 256 for none.
-fn byte_value(b: ReadByte) -> u32
-    ensures { opt_byte result ≡ final_byte (read_of b) }
-{
-    match b {
-        ReadByte::Value(v) => v as u32,
-        _ => 256,
+impl ReadByte {
+    // The byte that was read.
+    fn byte(self) -> Option<u8>
+        ensures { opt_of result ≡ final_byte (read_of self) }
+    {
+        match self {
+            ReadByte::Value(v) => Some(v),
+            _ => None,
+        }
     }
 }
 
-// The byte that the argument at a place is, and 256 for none.
+// The byte that the argument at a place is.
 #[tactic(auto, using(crate::proofs::LoadLaws::byte_zero, crate::proofs::LoadLaws::byte_other))]
-fn byte_of(sheet: &[u32], text: &[u16], base: u32, at: usize, left: usize) -> u32
-    ensures { opt_byte result ≡ byte_of text.now base (expr_at sheet.now left at) }
+fn byte_of(src: &Source, at: usize, left: usize) -> Option<u8>
+    ensures { opt_of result ≡ byte_of src.now.text.now src.now.base (expr_at src.now.sheet.now left at) }
 {
     if left == 0 {
-        return 256;
+        return None;
     }
-    if recorder::word::payload_at(sheet, at) == 2 {
-        let r = expressions::expr::node_range(sheet, at);
-        let a = rules::name::text_place(base, r.start as u32);
+    if recorder::word::payload_at(src.sheet, at) == 2 {
+        let r = expressions::expr::node_range(src.sheet, at);
+        let a = rules::name::text_place(src.base, r.start as u32);
         let n = rules::name::units(r);
-        byte_value(byte_units(text, a as usize, n))
+        byte_units(src.text, a as usize, n).byte()
     } else {
-        256
+        None
     }
 }
 
 // A note of class 12 for what is no byte.
-fn bad_byte(notes: &mut [u32], st: &mut St, v: u32, r: Range)
-    ensures { (t l b : List ℕ) (base : ℕ) → mem l notes.new b st.new ≡ bad_byte (mem_r t) t base (opt_byte v) r (mem l notes.old b st.old) }
+fn bad_byte(code: &mut CodeGen, v: Option<u8>, r: Range)
+    ensures same { SameLoans code.old code.new }
+    ensures value { (t : List ℕ) (base : ℕ) → mem_of code.new ≡ bad_byte (mem_r t) t base (opt_of v) r (mem_of code.old) }
 {
-    if 255 < v {
-        recorder::codegen::note(notes, st, 12, r, 1)
+    if v.is_none() {
+        code.note(Class::NotAllowed, r)
     }
 }
 
 // The notes for so many arguments, and the place behind them.
-fn bad_bytes(
-    sheet: &&[u32],
-    text: &&[u16],
-    notes: &mut [u32],
-    st: &mut St,
-    base: u32,
-    at: usize,
-    left: usize,
-    n: u32,
-) -> usize
-    ensures { BytesNoted sheet.now.now text.now.now base left n at notes.old st.old notes.new st.new result }
+fn bad_bytes(src: &Source, code: &mut CodeGen, at: usize, left: usize, n: u32) -> usize
+    ensures same { SameLoans code.old code.new }
+    ensures value { BytesNoted src.now.sheet.now src.now.text.now src.now.base left n at (mem_of code.old) (mem_of code.new) result }
 {
     let mut p = at;
     for _ in 0..n {
-        let v = byte_of(*sheet, *text, base, p, left);
-        let r = expressions::expr::node_range(*sheet, p);
-        bad_byte(notes, st, v, r);
-        p = walk::stmt::skip_expr(*sheet, p, left);
+        let v = byte_of(src, p, left);
+        let r = expressions::expr::node_range(src.sheet, p);
+        bad_byte(code, v, r);
+        p = walk::stmt::skip_expr(src.sheet, p, left);
     }
     p
 }
 
 // Whether each of so many arguments is a byte.
-fn all_bytes(sheet: &[u32], text: &[u16], base: u32, at: usize, left: usize, n: u32) -> bool
-    ensures { result ≡ all_bytes (mem_r text.now) text.now base (args_at sheet.now left n at) }
+fn all_bytes(src: &Source, at: usize, left: usize, n: u32) -> bool
+    ensures { result ≡ all_bytes (mem_r src.now.text.now) src.now.text.now src.now.base (args_at src.now.sheet.now left n at) }
 {
     let mut p = at;
     for _ in 0..n {
-        if 255 < byte_of(sheet, text, base, p, left) {
+        let Some(_) = byte_of(src, p, left) else {
             return false;
-        }
-        p = walk::stmt::skip_expr(sheet, p, left);
+        };
+        p = walk::stmt::skip_expr(src.sheet, p, left);
     }
     true
 }
 
 // An entry of the book for a byte.
-fn load_one(book: &mut [u32], st: &mut St, base: u32, v: u32, r: Range)
-    ensures { (t l o : List ℕ) → mem l o book.new st.new ≡ load_byte (mem_r t) t base (opt_byte v) r (mem l o book.old st.old) }
+fn load_one(src: &Source, code: &mut CodeGen, v: Option<u8>, r: Range)
+    ensures same { SameLoans code.old code.new }
+    ensures value { (t : List ℕ) → mem_of code.new ≡ load_byte (mem_r t) t src.now.base (opt_of v) r (mem_of code.old) }
 {
-    if v < 256 {
-        let a = rules::name::text_place(base, r.start as u32);
+    if let Some(byte) = v {
+        let a = rules::name::text_place(src.base, r.start as u32);
         let n = rules::name::units(r);
-        recorder::codegen::load_byte(book, st, a, n, v)
+        code.load_byte(a, n, u32::from(byte))
     }
 }
 
-fn load_bytes(
-    sheet: &&[u32],
-    text: &&[u16],
-    book: &mut [u32],
-    st: &mut St,
-    base: u32,
-    at: usize,
-    left: usize,
-    n: u32,
-)
-    ensures { (l o : List ℕ) → mem l o book.new st.new ≡ load_bytes (mem_r text.now.now) text.now.now base (args_at sheet.now.now left n at) (mem l o book.old st.old) }
+fn load_bytes(src: &Source, code: &mut CodeGen, at: usize, left: usize, n: u32)
+    ensures same { SameLoans code.old code.new }
+    ensures value { mem_of code.new ≡ load_bytes (mem_r src.now.text.now) src.now.text.now src.now.base (args_at src.now.sheet.now left n at) (mem_of code.old) }
 {
     let mut p = at;
     for _ in 0..n {
-        let v = byte_of(*sheet, *text, base, p, left);
-        let r = expressions::expr::node_range(*sheet, p);
-        load_one(book, st, base, v, r);
-        p = walk::stmt::skip_expr(*sheet, p, left);
+        let v = byte_of(src, p, left);
+        let r = expressions::expr::node_range(src.sheet, p);
+        load_one(src, code, v, r);
+        p = walk::stmt::skip_expr(src.sheet, p, left);
     }
 }
 
 // From the argument behind the first on, n of them.
-fn load_node(
-    sheet: &&[u32],
-    text: &&[u16],
-    list: &mut [u32],
-    notes: &mut [u32],
-    book: &mut [u32],
-    st: &mut St,
-    base: u32,
-    at: usize,
-    left: usize,
-    n: u32,
-    r: Range,
-) -> usize
-    ensures { Loaded sheet.now.now text.now.now base left n r at (mem list.old notes.old book.old st.old) (mem list.new notes.new book.new st.new) result }
+fn load_node(src: &Source, code: &mut CodeGen, at: usize, left: usize, n: u32, r: Range) -> usize
+    ensures same { SameLoans code.old code.new }
+    ensures value { Loaded src.now.sheet.now src.now.text.now src.now.base left n r at (mem_of code.old) (mem_of code.new) result }
 {
     if n == 0 {
-        recorder::codegen::note(notes, st, 6, r, 1);
+        code.note(Class::TooFewArguments, r);
         return at;
     }
-    let x = bad_bytes(sheet, text, notes, st, base, at, left, n);
-    if all_bytes(*sheet, *text, base, at, left, n) {
-        let first = recorder::codegen::next_byte(st);
-        load_bytes(sheet, text, book, st, base, at, left, n);
-        recorder::codegen::emit_load_bytes(list, st, r, first, n);
+    let x = bad_bytes(src, code, at, left, n);
+    if all_bytes(src, at, left, n) {
+        let first = code.next_byte();
+        load_bytes(src, code, at, left, n);
+        code.emit(r, Call::LoadBytes(first, n));
         x
     } else {
         x
@@ -211,47 +192,20 @@ fn load_node(
 }
 
 pub fn compile_load(
-    sheet: &&[u32],
-    text: &&[u16],
-    list: &mut [u32],
-    notes: &mut [u32],
-    book: &mut [u32],
-    st: &mut St,
-    base: u32,
+    src: &Source,
+    code: &mut CodeGen,
     at: usize,
     left: usize,
     k: u32,
     r: Range,
 ) -> usize
-    ensures { Body sheet.now.now text.now.now base left Shape.Load k r at (mem list.old notes.old book.old st.old) (mem list.new notes.new book.new st.new) result }
+    ensures same { SameLoans code.old code.new }
+    ensures value { Body src.now.sheet.now src.now.text.now src.now.base left Shape.Load k r at (mem_of code.old) (mem_of code.new) result }
 {
-    let c = expressions::expr::read_payload(*sheet, at);
+    let c = expressions::expr::read_payload(src.sheet, at);
     if c.value == 0 {
         return c.at;
     }
-    let x = expressions::expr::compile_typed(
-        sheet,
-        text,
-        list,
-        notes,
-        book,
-        st,
-        base,
-        c.at,
-        left,
-        Type::Real,
-    );
-    load_node(
-        sheet,
-        text,
-        list,
-        notes,
-        book,
-        st,
-        base,
-        x,
-        left,
-        c.value - 1,
-        r,
-    )
+    let x = expressions::expr::compile_typed(src, code, c.at, left, Type::Real);
+    load_node(src, code, x, left, c.value - 1, r)
 }

@@ -3,14 +3,14 @@ use Rattle.expressions.proofs.ExprLaws.{head}
 use Rattle.inputs.proofs.InputLaws.{taken_zero, taken_fn, taken_place}
 use Rattle.inputs.proofs.input.input_var.Goals as goal
 
-pub returns-then-left-eq0 : goal.returns-then-left-eq0
-returns-then-left-eq0 c = taken_zero _ _ _ _ _ _ _ c.if-left-eq0.true
+pub returns-then-left-eq0-clause-value : goal.returns-then-left-eq0-clause-value
+returns-then-left-eq0-clause-value c = taken_zero _ _ _ _ _ _ _ c.if-left-eq0.true
 
 pub overflow_sub-left : goal.overflow_sub-left
 overflow_sub-left c = omega (arith, c.if-left-eq0.false)
 
-pub returns-then-k-eq4 : goal.returns-then-k-eq4
-returns-then-k-eq4 c = taken_fn _ _ _ _ _ _ _ _ _ _ _ _ (head _ _ _ _ _ _ _ c.if-left-eq0.false c.payload_at-k.ensures c.node_range-r.ensures c.behind.ensures c.behind-p.ensures) c.if-k-eq4.true c.fn_input.ensures c.skip_expr.ensures
+pub returns-then-k-eq4-clause-value : goal.returns-then-k-eq4-clause-value
+returns-then-k-eq4-clause-value c = taken_fn _ _ _ _ _ _ _ _ _ _ _ _ (head _ _ _ _ _ _ _ c.if-left-eq0.false c.payload_at-k.ensures c.node_range-r.ensures c.behind.ensures c.behind-p.ensures) c.if-k-eq4.true c.fn_input.ensures.value c.skip_expr.ensures
 
-pub returns-else-k-eq4 : goal.returns-else-k-eq4
-returns-else-k-eq4 c = taken_place _ _ _ _ _ _ _ _ _ _ _ _ _ (head _ _ _ _ _ _ _ c.if-left-eq0.false c.payload_at-k.ensures c.node_range-r.ensures c.behind.ensures c.behind-p.ensures) c.if-k-eq4.false c.compile_lvalue-x.ensures
+pub returns-else-k-eq4-clause-value : goal.returns-else-k-eq4-clause-value
+returns-else-k-eq4-clause-value c = taken_place _ _ _ _ _ _ _ _ _ _ _ _ _ (head _ _ _ _ _ _ _ c.if-left-eq0.false c.payload_at-k.ensures c.node_range-r.ensures c.behind.ensures c.behind-p.ensures) c.if-k-eq4.false c.compile_lvalue-x.ensures.value

@@ -1,7 +1,7 @@
 use Rattle.jumps.proofs.jump.on_jump.Goals as goal
 
-pub returns-in_default : goal.returns-in_default
-returns-in_default c = rw c.in_default.is c.pending_jump.ensures
+pub returns-in_default-clause-value : goal.returns-in_default-clause-value
+returns-in_default-clause-value c = rw c.in_default.is c.pending_jump.ensures.value
 
-pub returns : goal.returns
-returns c = rw c.in-Some.is c.pending_jump-2.ensures
+pub returns-clause-value : goal.returns-clause-value
+returns-clause-value c = rw c.in-Some.is c.pending_jump-2.ensures.value

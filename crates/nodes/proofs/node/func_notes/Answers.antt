@@ -1,5 +1,6 @@
-use Rattle.nodes.proofs.Laws.{func_noted}
+use Rattle.rules.specs.Expr.{func_notes}
 use Rattle.nodes.proofs.node.func_notes.Goals as goal
 
-pub returns : goal.returns
-returns c = λ t l b base. func_noted _ _ _ _ _ _ _ _ _ (c.tab_note.ensures t l b base) (c.arity_notes.ensures t l b base)
+pub returns-clause-value : goal.returns-clause-value
+unfolding func_notes
+returns-clause-value c = λ t base. rw (← c.tab_note.ensures.value t base) (c.arity_notes.ensures.value t base)

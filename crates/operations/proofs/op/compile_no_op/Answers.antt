@@ -1,6 +1,5 @@
-use Rattle.nodes.proofs.Laws.{put_at}
 use Rattle.operations.proofs.OpLaws.{no_op_of}
 use Rattle.operations.proofs.op.compile_no_op.Goals as goal
 
-pub returns : goal.returns
-returns c = λ s t n b base left k. no_op_of _ _ _ _ _ _ _ _ _ (put_at _ _ _ _ _ _ _ _ _ _ _ c.emit_no_op.ensures)
+pub returns-clause-value : goal.returns-clause-value
+returns-clause-value c = λ s t base left k. no_op_of _ _ _ _ _ _ _ _ _ c.emit.ensures.value

@@ -2,10 +2,11 @@ use mathlib.Core.Path.{◌≡◌}
 use mathlib.Core.List.{List}
 use Prim.Native.Nat.{ℕ, ◌-◌}
 use Rattle.recorder.specs.Marks.{Mark}
-use Rattle.recorder.specs.Mem.{mem, mem_r}
+use Rattle.recorder.specs.Mem.{mem_r}
 use Rattle.rules.specs.Program.{resolve_datum_indices}
 use Rattle.labels.specs.Indexed.{Indexed}
+use Rattle.recorder.specs.CodeGen.{mem_of, SameLoans}
 use Rattle.resolution.proofs.resolve.resolve_datum_indices.Given as goal
 
 abbrev pub invariant-loop-k : goal.invariant-loop-k
-invariant-loop-k l = (t b : List ℕ) (ms : List Mark) → Indexed l.chains ms → resolve_datum_indices (mem_r t) ms l.k (l.k-end - l.k) (mem l.list l.notes b l.st) ≡ resolve_datum_indices (mem_r t) ms 0 l.k-end (mem l.initial.list l.initial.notes b l.initial.st)
+invariant-loop-k l = (SameLoans l.initial.code l.code) × ((t : List ℕ) (ms : List Mark) → Indexed l.chains ms → resolve_datum_indices (mem_r t) ms l.k (l.k-end - l.k) (mem_of l.code) ≡ resolve_datum_indices (mem_r t) ms 0 l.k-end (mem_of l.initial.code))

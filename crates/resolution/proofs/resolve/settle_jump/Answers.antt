@@ -5,5 +5,5 @@ use Rattle.resolution.proofs.SearchLaws.{target_search, target_is}
 use Rattle.resolution.proofs.ResolveLaws.{look_is, loses}
 use Rattle.resolution.proofs.resolve.settle_jump.Goals as goal
 
-pub returns-in_default-target_of : goal.returns-in_default-target_of
-returns-in_default-target_of c = λ t b ms h. loses t (addr_of ms) 2 1 c.args.k _ c.look-q.result (look_at c.args.list.now c.args.k) (look_is c.look-q.result _ _ _ _ c.look-q.ensures) c.in-Some.ensures _ _ (target_is _ _ (c.target_of.ensures ms h) ∙ ap target_search c.in_default-target_of.is) (c.miss.ensures t b)
+pub returns-in_default-target_of-clause-value : goal.returns-in_default-target_of-clause-value
+returns-in_default-target_of-clause-value c = λ t ms h. loses t (addr_of ms) 2 1 c.args.k _ c.look-q.result (look_at c.args.code.now.list.now c.args.k) (look_is c.look-q.result _ _ _ _ c.look-q.ensures) c.in-Some.ensures _ _ (target_is _ _ (c.target_of.ensures ms h) ∙ ap target_search c.in_default-target_of.is) (c.miss.ensures.value t)

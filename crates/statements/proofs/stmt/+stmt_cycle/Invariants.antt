@@ -1,9 +1,10 @@
 use Rattle.std.proofs.Common.{◌≡◌, ◌+◌, ◌-◌, ◌*◌, length}
-use Rattle.recorder.specs.Mem.{mem, mem_r}
+use Rattle.recorder.specs.Mem.{mem_r}
 use Rattle.sheet.specs.declared.form.Sort.TheVariants.{Stmt as stmtSort}
 use Rattle.sheet.specs.Skip.{skip_node, skip_repeat}
 use Rattle.sheet.specs.Tree.{stmt_at, stmts_at}
 use Rattle.rules.specs.Stmt.{compile_stmts}
+use Rattle.recorder.specs.CodeGen.{mem_of, SameLoans}
 use Rattle.statements.proofs.stmt.+stmt_cycle.Given as goal
 
 abbrev pub decreases-compile_if : goal.decreases-compile_if
@@ -16,6 +17,6 @@ abbrev pub decreases-compile_stmts : goal.decreases-compile_stmts
 decreases-compile_stmts l = 3 * l.left + 1
 
 abbrev pub invariant-compile_stmts-loop : goal.invariant-compile_stmts-loop
-invariant-compile_stmts-loop l = (length l.list ≡ length l.initial.list) × (length l.notes ≡ length l.initial.notes) × (length l.book ≡ length l.initial.book)
-    × (skip_repeat l.sheet.now (skip_node l.sheet.now l.left stmtSort) (l.end - l.counter) l.p ≡ skip_repeat l.sheet.now (skip_node l.sheet.now l.left stmtSort) l.end l.initial.p)
-    × (compile_stmts (mem_r l.text.now) l.text.now l.base (stmts_at l.sheet.now (stmt_at l.sheet.now l.left) (skip_node l.sheet.now l.left stmtSort) (l.end - l.counter) l.p) (mem l.list l.notes l.book l.st) ≡ compile_stmts (mem_r l.text.now) l.text.now l.base (stmts_at l.sheet.now (stmt_at l.sheet.now l.left) (skip_node l.sheet.now l.left stmtSort) l.end l.initial.p) (mem l.initial.list l.initial.notes l.initial.book l.initial.st))
+invariant-compile_stmts-loop l = (SameLoans l.initial.code l.code)
+    × (skip_repeat l.src.sheet.now (skip_node l.src.sheet.now l.left stmtSort) (l.end - l.counter) l.p ≡ skip_repeat l.src.sheet.now (skip_node l.src.sheet.now l.left stmtSort) l.end l.initial.p)
+    × (compile_stmts (mem_r l.src.text.now) l.src.text.now l.src.base (stmts_at l.src.sheet.now (stmt_at l.src.sheet.now l.left) (skip_node l.src.sheet.now l.left stmtSort) (l.end - l.counter) l.p) (mem_of l.code) ≡ compile_stmts (mem_r l.src.text.now) l.src.text.now l.src.base (stmts_at l.src.sheet.now (stmt_at l.src.sheet.now l.left) (skip_node l.src.sheet.now l.left stmtSort) l.end l.initial.p) (mem_of l.initial.code))

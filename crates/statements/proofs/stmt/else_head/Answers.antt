@@ -1,6 +1,7 @@
-use Rattle.nodes.proofs.Laws.{put_at}
-use Rattle.statements.proofs.StmtLaws.{else_jump_lem}
+use Rattle.std.proofs.Common.{◌∙◌, ap, ℕ}
+use Rattle.recorder.specs.Mem.{Mem, mem_r}
+use Rattle.rules.specs.Stmt.{end_here}
 use Rattle.statements.proofs.stmt.else_head.Goals as goal
 
-pub returns : goal.returns
-returns c = else_jump_lem _ _ _ _ _ _ _ (λ t n b base. put_at _ _ _ _ _ _ _ _ _ _ _ c.emit_goto.ensures) c.end_here.ensures
+pub returns-clause-value : goal.returns-clause-value
+returns-clause-value c = λ t base. c.end_here.ensures.value t base ∙ ap (λ (m : Mem). end_here (mem_r t) t base c.args.jump.0 m) c.emit.ensures.value
