@@ -5,7 +5,7 @@ ghost use Rattle.accept_exprs.specs.Read.{node_in, field_in};
 
 use crate::leaf::{operator_form, own_form};
 use recorder::word::payload_at;
-use sheet::form::{Offence, Sort, Walk, may_stand};
+use sheet::form::{ExprKind, Offence, Sort, Walk, may_stand};
 use sheet::leaf::{
     absent_form, head_form, is_absent, non_empty_form, number_form, optional_name_form,
 };
@@ -27,7 +27,7 @@ pub fn exprs_form(form: &LineForm, left: usize, at: usize) -> Walk
 
 // An expression, with so many depths left, its own among them.
 #[cycle(form_cycle)]
-#[tactic(auto, unfolding(sheet::specs::Form::fields_form, sheet::specs::Form::item_form, sheet::specs::Table::expr_fields), using(crate::proofs::Fields::expr_is, crate::proofs::Fields::expr_deep, crate::proofs::Fields::one_is, crate::proofs::Fields::last_is))]
+#[tactic(auto, unfolding(sheet::specs::Form::fields_form, sheet::specs::Form::item_form), using(sheet::proofs::Cases::fields_rule, crate::proofs::Fields::expr_is, crate::proofs::Fields::expr_deep, crate::proofs::Fields::one_is, crate::proofs::Fields::last_is))]
 pub fn expr_form(form: &LineForm, left: usize, at: usize) -> Walk
     ensures { result ≡ node_in form.now left Sort.Expr at }
 {
@@ -37,26 +37,26 @@ pub fn expr_form(form: &LineForm, left: usize, at: usize) -> Walk
     }
     let k = payload_at(form.sheet, at);
     let q = own_form(form, k, h)?;
-    match k {
-        2 => number_form(form.sheet, q),
-        3 => {
+    match ExprKind::of(k) {
+        ExprKind::NumberLit => number_form(form.sheet, q),
+        ExprKind::SysFuncCall => {
             let p = operator_form(form.sheet, form.line, 34, q)?;
             exprs_form(form, left - 1, p)
         }
-        4 => {
+        ExprKind::UserFuncCall => {
             let p = optional_name_form(form.sheet, form.text, form.line, q)?;
             expr_form(form, left - 1, p)
         }
-        5 => {
+        ExprKind::Binary => {
             let p = expr_form(form, left - 1, q)?;
             let o = operator_form(form.sheet, form.line, 13, p)?;
             expr_form(form, left - 1, o)
         }
-        6 => {
+        ExprKind::Unary => {
             let p = operator_form(form.sheet, form.line, 3, q)?;
             expr_form(form, left - 1, p)
         }
-        7 => {
+        ExprKind::Index => {
             let p = optional_name_form(form.sheet, form.text, form.line, q)?;
             exprs_form(form, left - 1, p)
         }

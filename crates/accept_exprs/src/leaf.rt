@@ -5,7 +5,7 @@ ghost use Rattle.sheet.specs.Table.{own_range};
 ghost use Rattle.sheet.specs.Form.{then, take_word, range_form};
 ghost use Rattle.accept_exprs.specs.Read.{item_in};
 
-use sheet::form::{Kind, Line, Walk};
+use sheet::form::{ExprKind, Kind, Line, Walk};
 use sheet::leaf::{name_form, range_form, take_word, text_form};
 use walk::stmt::LineForm;
 
@@ -20,13 +20,13 @@ pub fn operator_form(sheet: &[u32], line: Line, n: u32, at: usize) -> Walk
 
 // An expression's own range: a name, a text, or neither.
 #[inline(always)]
-#[tactic(auto, unfolding(sheet::specs::Form::item_form))]
+#[tactic(auto, using(sheet::proofs::Cases::range_rule), unfolding(sheet::specs::Form::item_form))]
 pub fn own_form(form: &LineForm, k: u32, at: usize) -> Walk
     ensures { result ≡ item_in form.now 0 (own_range Expr k) at }
 {
-    match k {
-        0 => name_form(form.sheet, form.text, form.line, at),
-        1 => text_form(form.sheet, form.line, at),
+    match ExprKind::of(k) {
+        ExprKind::Ident => name_form(form.sheet, form.text, form.line, at),
+        ExprKind::StringLit => text_form(form.sheet, form.line, at),
         _ => range_form(form.sheet, form.line, at),
     }
 }

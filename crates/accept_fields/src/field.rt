@@ -9,7 +9,7 @@ ghost use Rattle.accept_exprs.specs.Read.{item_in, field_in, fields_in};
 use crate::list::{list_form, some_form};
 use accept_exprs::expr::{expr_form, exprs_form, optional_expr_form, place_form};
 use recorder::word::payload_at;
-use sheet::form::{Kind, Shape, Sort, Walk};
+use sheet::form::{ElementKind, Kind, Shape, Sort, SourceKind, Walk};
 use sheet::leaf::{
     absent_form, datum_form, is_absent, label_form, optional_label_form, optional_name_form,
     range_form, take_word, text_form,
@@ -95,15 +95,15 @@ fn goto_form(form: &LineForm, left: usize, at: usize) -> Walk
 }
 
 // INPUT's source: the keyboard, the keyboard and a prompt, or a file.
-#[tactic(auto, unfolding(sheet::specs::Form::fields_form, sheet::specs::Form::field_form, sheet::specs::Form::times_form, sheet::specs::Form::pair_form, sheet::specs::Form::item_form), using(accept_exprs::proofs::Fields::one_is, accept_exprs::proofs::Fields::last_is, walk::proofs::Lines::then_behind, walk::proofs::Lines::alone))]
+#[tactic(auto, unfolding(sheet::specs::Form::fields_form, sheet::specs::Form::field_form, sheet::specs::Form::times_form, sheet::specs::Form::pair_form, sheet::specs::Form::item_form), using(sheet::proofs::Cases::keyboard_number, sheet::proofs::Cases::prompt_number, accept_exprs::proofs::Fields::one_is, accept_exprs::proofs::Fields::last_is, walk::proofs::Lines::then_behind, walk::proofs::Lines::alone))]
 fn source_form(form: &LineForm, left: usize, at: usize) -> Walk
     ensures { result ≡ item_in form.now left source at }
 {
     let p = take_word(form.sheet, Kind::Source, 3, at)?;
-    match payload_at(form.sheet, at) {
-        0 => Ok(p),
-        1 => text_form(form.sheet, form.line, p),
-        _ => expr_form(form, left, p),
+    match SourceKind::of(payload_at(form.sheet, at)) {
+        SourceKind::Keyboard => Ok(p),
+        SourceKind::KeyboardWithPrompt => text_form(form.sheet, form.line, p),
+        SourceKind::File => expr_form(form, left, p),
     }
 }
 
@@ -162,15 +162,14 @@ fn open_form(form: &LineForm, left: usize, at: usize) -> Walk
 }
 
 // PRINT's element: an expression, or the range of a comma or a semicolon.
-#[tactic(auto, unfolding(sheet::specs::Form::fields_form, sheet::specs::Form::field_form, sheet::specs::Form::times_form, sheet::specs::Form::pair_form, sheet::specs::Form::item_form), using(accept_exprs::proofs::Fields::one_is, accept_exprs::proofs::Fields::last_is, walk::proofs::Lines::then_behind, walk::proofs::Lines::alone))]
+#[tactic(auto, unfolding(sheet::specs::Form::fields_form, sheet::specs::Form::field_form, sheet::specs::Form::times_form, sheet::specs::Form::pair_form, sheet::specs::Form::item_form), using(sheet::proofs::Cases::value_number, accept_exprs::proofs::Fields::one_is, accept_exprs::proofs::Fields::last_is, walk::proofs::Lines::then_behind, walk::proofs::Lines::alone))]
 fn element_form(form: &LineForm, left: usize, at: usize) -> Walk
     ensures { result ≡ item_in form.now left element at }
 {
     let p = take_word(form.sheet, Kind::Element, 3, at)?;
-    if payload_at(form.sheet, at) == 0 {
-        expr_form(form, left, p)
-    } else {
-        range_form(form.sheet, form.line, p)
+    match ElementKind::of(payload_at(form.sheet, at)) {
+        ElementKind::Expr => expr_form(form, left, p),
+        ElementKind::Comma | ElementKind::Semicolon => range_form(form.sheet, form.line, p),
     }
 }
 
@@ -186,7 +185,8 @@ fn write_form(form: &LineForm, left: usize, at: usize) -> Walk
     })
 }
 
-// The fields of a statement of a shape; of an IF only the condition.
+// The fields of a statement of a shape; of an IF only the condition. The arms' functions take parameters
+// of their own; a table of function pointers would lose which one is called.
 #[tactic(auto, unfolding(sheet::specs::Form::label_form, sheet::specs::Form::fields_form, sheet::specs::Form::field_form, sheet::specs::Form::times_form, sheet::specs::Form::pair_form, sheet::specs::Form::item_form), using(accept_exprs::proofs::Fields::one_is, accept_exprs::proofs::Fields::last_is, walk::proofs::Lines::then_behind, walk::proofs::Lines::alone))]
 pub fn plain_form(form: &LineForm, left: usize, s: Shape, at: usize) -> Walk
     ensures { (s ≡ If → ⊥) → result ≡ fields_in form.now left (shape_fields s) at }

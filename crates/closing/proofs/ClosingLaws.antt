@@ -12,7 +12,7 @@ use Rattle.recorder.specs.Word.{pick, both, either, kind_at, word_of}
 use Rattle.recorder.specs.Ideal.{Rec}
 use Rattle.recorder.specs.Closing.{is_while, is_wend, is_end, up_to, round_up}
 use Rattle.closing.specs.Parts.{passed_of}
-use Rattle.recorder.specs.Mem.{Mem, mem, put_note, link_at, rec_of, set_b, at_rec, while_list, while_top, Passed, passed, open_from, unit_of, known, sigil_of, unlink_at, unlink_from, unlinked}
+use Rattle.recorder.specs.Mem.{Mem, mem, put_note, link_at, rec_of, set_b, at_rec, while_list, while_top, Passed, passed, open_from, unit_of, sigil_of, unlink_at, unlink_from}
 use Rattle.recorder.proofs.Bools.{never, both_false}
 
 -- tests in a row

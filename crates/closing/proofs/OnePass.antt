@@ -11,6 +11,7 @@ use lib.Seq.{length-take-le, take_at, drop_at, take-set-le, drop-set-add, get_or
 use borrow.Author.Tests.{lt-ltb, ltb-true, ltb-false, eqb-true, eqb-false, ne_eqb}
 use native.Mathlib.Numerals.{add-one}
 use native.Mathlib.Omega.{arith}
+use Rattle.recorder.specs.declared.codegen.State.{State}
 use Rattle.recorder.specs.Recorder.{unknown}
 use Rattle.recorder.specs.Word.{pick, both, either, word_of}
 use Rattle.recorder.specs.Ideal.{Rec, no_range}
@@ -18,7 +19,7 @@ use Rattle.recorder.specs.Closing.{is_while, is_wend, is_start, is_one, is_end, 
 use Rattle.recorder.specs.Mem.{Mem, mem, put, known, unlink_from, unlinked, clean_up, put_rec, put_st, note_list, note_st, part, rec_of, set_b, at_rec, link_at, while_list, while_top, whiles_from, top_from, Passed, passed, open_step, open_from, present, patch_whiles, rewrite, no_op_at, whole_at, delay_at, stepped_at, delayed_at, stepped_delayed_at, delay_list, delays_from, convert_delays, clean_up_all}
 use Rattle.recorder.proofs.Words.{head_kind}
 use Rattle.recorder.proofs.Bools.{never, both_left, both_right}
-use Rattle.recorder.proofs.Laws.{note_same}
+use Rattle.recorder.proofs.Laws.{note_records}
 use Rattle.closing.specs.Parts.{with_passed}
 use Rattle.closing.proofs.ClosingLaws.{at_beyond, while_other}
 
@@ -375,7 +376,7 @@ module _ (G : List ℕ → List ℕ) (K : (l : List ℕ) → Keeps G l) where
   abbrev on_list : Passed → Passed
   on_list p = passed (G p.list) p.notes p.st
 
-  pub open_commutes : (left : ℕ) (l n : List ℕ) (s : List ℕ) {top : ℕ} → OpenWhiles l top → top ≤ length l / 5 → open_from (passed (G l) n s) top left ≡ on_list (open_from (passed l n s) top left)
+  pub open_commutes : (left : ℕ) (l n : List ℕ) (s : State) {top : ℕ} → OpenWhiles l top → top ≤ length l / 5 → open_from (passed (G l) n s) top left ≡ on_list (open_from (passed l n s) top left)
   unfolding open_from
   open_commutes zero l n s c h = refl
   open_commutes (suc left) l n s none h = refl
@@ -408,13 +409,13 @@ opens_all (suc n) l top k c h =
     let q = opens_all n (while_list l top k) (while_top l top k) (k + 1) s.0 s.1 in
     (q.0, omega (arith, q.1))
 
-open_present : (left : ℕ) (l n : List ℕ) (s : List ℕ) (top : ℕ) → present (open_from (passed l n s) top left).list (open_from (passed l n s) top left).st ≡ present l s
+open_present : (left : ℕ) (l n : List ℕ) (s : State) (top : ℕ) → present (open_from (passed l n s) top left).list (open_from (passed l n s) top left).st ≡ present l s
 unfolding open_from
 open_present zero l n s top = refl
 open_present (suc left) l n s top =
     let p : Passed = open_step (passed l n s) (top - 1) in
     go (eqb top 0) (open_from p (link_at l (top - 1)) left)
-    (open_present left p.list p.notes p.st (link_at l (top - 1)) ∙ rw (note_same n s 0 (λ e. omega arith) (λ e. omega arith), b_long l (top - 1) unknown))
+    (open_present left p.list p.notes p.st (link_at l (top - 1)) ∙ rw (note_records n s, b_long l (top - 1) unknown))
   where
     go : (a : Bool) (p : Passed) → present p.list p.st ≡ present l s → present (pick a (passed l n s) p).list (pick a (passed l n s) p).st ≡ present l s
     go true p e = refl
@@ -485,7 +486,7 @@ loop-other l top k c e f g =
 abbrev ended : Passed → Passed
 ended p = passed (put_rec p.list p.st 2 no_range 17 0 0) p.notes (put_st p.list p.st)
 
-passes_done : (l l1 n : List ℕ) (s : List ℕ) (k top : ℕ) → k ≡ present l s → (l1 ≡ delays_from (whiles_from l 0 0 k) 0 k) × (top ≡ top_from l 0 0 k)
+passes_done : (l l1 n : List ℕ) (s : State) (k top : ℕ) → k ≡ present l s → (l1 ≡ delays_from (whiles_from l 0 0 k) 0 k) × (top ≡ top_from l 0 0 k)
     → ended (open_from (passed l1 n s) top k) ≡ clean_up_all l n s
 unfolding clean_up_all patch_whiles convert_delays
 passes_done l l1 n s k top e f =

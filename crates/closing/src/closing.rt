@@ -9,8 +9,9 @@ ghost use Rattle.recorder.specs.Mem.{put_note, rec_of, set_b, at_rec, while_list
 
 use recorder::call::{Call, Class, FOR, NEXT, NO_OP, NUMBER, OP, UNKNOWN, VAR, WHILE};
 use recorder::codegen::{
-    A, B, C, CodeGen, ENTRY, EXTRA, RANGE, RECORD, RECORDS, most_records, set_at,
+    A, B, C, CodeGen, DOLLAR_CODE, ENTRY, EXTRA, PERCENT_CODE, RANGE, RECORD, most_records, set_at,
 };
+use recorder::unit::{DOLLAR, PERCENT};
 use recorder::word::{Range, kind_at, word_at, word_of};
 
 // The statements End, WEND and SLEEP.
@@ -335,8 +336,8 @@ fn sigil_of(c: u32) -> u32
     ensures { result ≡ sigil_of c }
 {
     match c {
-        1 => 36,
-        2 => 37,
+        DOLLAR_CODE => DOLLAR as u32,
+        PERCENT_CODE => PERCENT as u32,
         _ => 0,
     }
 }
@@ -372,7 +373,7 @@ pub fn clean_up(code: &mut CodeGen)
 {
     let known = code.known();
     unlink_names(code.book, known);
-    let n = present_of(code.list.len(), code.st[RECORDS]);
+    let n = present_of(code.list.len(), code.st.records);
     let top = close_loops(code.list, n);
     open_whiles(code, top, n);
     code.emit(Range { start: 0, end: 0 }, Call::Op(END, 0))

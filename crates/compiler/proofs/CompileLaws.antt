@@ -57,6 +57,16 @@ from_zeros s t m₀ m₁ m₂ w₀ w₁ w₂ k n h hw p hs hf =
     let l : length w₁ ≡ length w₀ = ap length hw ∙ length-replicate (length w₀) 0 in
     record { state = q.state; marks = q.marks (rw l hw) (omega (arith, l, hs)) hf }
 
+-- 9, known once the lines are compiled, and what is told where there is room
+list_full_lem : (L : Lengths) (m₁ m₂ : Mem) (o : Outcome) → list_full m₁.st ≡ true → o ≡ refused 9 0 L → o ≡ mem_outcome L m₁ m₂
+list_full_lem L m₁ m₂ o h e = rw h e
+
+no_room : (L : Lengths) (m₁ m₂ : Mem) (o : Outcome) → list_full m₁.st ≡ false → most_records L.list ≤ records_in m₁.st → o ≡ refused 9 0 L → o ≡ mem_outcome L m₁ m₂
+no_room L m₁ m₂ o h i e = rw (h, le-leb (most_records L.list) (records_in m₁.st) i) e
+
+room : (L : Lengths) (m₁ m₂ : Mem) (o : Outcome) → list_full m₁.st ≡ false → records_in m₁.st < most_records L.list → o ≡ mem_sized L m₂ → o ≡ mem_outcome L m₁ m₂
+room L m₁ m₂ o h i e = rw (h, lt-leb (most_records L.list) (records_in m₁.st) i) e
+
 -- the three ways out of compile_accepted; h is the length of work on the way
 module _ (s t : List ℕ) (L : Lengths) (m : Mem) (w : List ℕ) (k h : ℕ) (o : Outcome) (x : FromZeros s t L m w k) (hw : h ≡ L.work) where
   as_long : lens m h ≡ L
@@ -65,7 +75,7 @@ module _ (s t : List ℕ) (L : Lengths) (m : Mem) (w : List ℕ) (k h : ℕ) (o 
   pub whole_full : list_full m.st ≡ true → o ≡ refused 9 0 (lens m h) → o ≡ sized (finished s t) L
   whole_full f e =
       let g : list_full (mem_lines s t L).state.st ≡ true = rw x.state at f in
-      let d : o ≡ mem_outcome L (mem_lines s t L).state (close_up (mem_r t) (mem_lines s t L)) = rw g (e ∙ ap (refused 9 0) as_long) in
+      let d : o ≡ mem_outcome L (mem_lines s t L).state (close_up (mem_r t) (mem_lines s t L)) = list_full_lem L (mem_lines s t L).state (close_up (mem_r t) (mem_lines s t L)) o g (e ∙ ap (refused 9 0) as_long) in
       d ∙ held_outcome s t L
 
   pub whole_no_room : (r : ℕ) → list_full m.st ≡ false → r ≡ most_records (length m.list) → r ≤ records_in m.st → o ≡ refused 9 0 (lens m h) → o ≡ sized (finished s t) L
@@ -73,7 +83,7 @@ module _ (s t : List ℕ) (L : Lengths) (m : Mem) (w : List ℕ) (k h : ℕ) (o 
       let n : list_full (mem_lines s t L).state.st ≡ false = rw x.state at f in
       let i : r ≡ most_records L.list = hr ∙ ap (λ (z : Lengths). most_records z.list) as_long in
       let y : most_records L.list ≤ records_in (mem_lines s t L).state.st = rw (i, x.state) at g in
-      let d : o ≡ mem_outcome L (mem_lines s t L).state (close_up (mem_r t) (mem_lines s t L)) = rw (n, le-leb _ _ y) (e ∙ ap (refused 9 0) as_long) in
+      let d : o ≡ mem_outcome L (mem_lines s t L).state (close_up (mem_r t) (mem_lines s t L)) = no_room L (mem_lines s t L).state (close_up (mem_r t) (mem_lines s t L)) o n y (e ∙ ap (refused 9 0) as_long) in
       d ∙ held_outcome s t L
 
   pub whole_sized : (r : ℕ) (m' : Mem) → list_full m.st ≡ false → r ≡ most_records (length m.list) → records_in m.st < r
@@ -85,5 +95,5 @@ module _ (s t : List ℕ) (L : Lengths) (m : Mem) (w : List ℕ) (k h : ℕ) (o 
       let y : records_in (mem_lines s t L).state.st < most_records L.list = rw (i, x.state) at g in
       let z : m' ≡ close_up (mem_r t) (mem_lines s t L) = close t (mem_lines s t L) (sym x.state) x.marks in
       let l : lens m' h ≡ L = lens_are L m' h (rw z (closed_long s t L (n, y))) hw in
-      let d : o ≡ mem_outcome L (mem_lines s t L).state (close_up (mem_r t) (mem_lines s t L)) = rw (n, lt-leb _ _ y) (e ∙ ap (λ (v : Lengths). mem_sized v m') l ∙ ap (mem_sized L) z) in
+      let d : o ≡ mem_outcome L (mem_lines s t L).state (close_up (mem_r t) (mem_lines s t L)) = room L (mem_lines s t L).state (close_up (mem_r t) (mem_lines s t L)) o n y (e ∙ ap (λ (v : Lengths). mem_sized v m') l ∙ ap (mem_sized L) z) in
       d ∙ held_outcome s t L

@@ -10,9 +10,7 @@ ghost use Rattle.rules.specs.Outcome.{lengths, refused, finished, sized, outcome
 ghost use Rattle.rules.specs.MemAnswer.{mem_sized};
 ghost use Rattle.compiler.specs.Answered.{outcome_of, outcome_in, lengths_in};
 
-use recorder::codegen::{
-    BOOK_FULL, CELLS, CodeGen, ENTRIES, LIST_FULL, NOTES, NOTES_FULL, RECORDS, clear, most_records,
-};
+use recorder::codegen::{CodeGen, State, clear, most_records};
 use sheet::form::Refusal;
 
 // How many records, notes and book entries a sheet makes.
@@ -51,17 +49,17 @@ fn sized_up(code: &mut CodeGen, work: &mut [u32]) -> Answer
     ensures same { SameLoans code.old code.new }
     ensures value { outcome_in result code.new work.new ≡ mem_sized (lengths_in code.old work.old) (mem_of code.old) }
 {
-    if 0 < code.st[NOTES_FULL] {
+    if code.st.notes_full {
         return refuse(code, work, Refusal::NotesTooShort);
     }
-    if 0 < code.st[BOOK_FULL] {
+    if code.st.book_full {
         return refuse(code, work, Refusal::BookTooShort);
     }
     clear(work);
     Ok(Sizes {
         records: code.current_addr().0,
-        notes: code.st[NOTES],
-        entries: code.st[ENTRIES],
+        notes: code.st.notes,
+        entries: code.st.entries,
     })
 }
 
@@ -72,10 +70,10 @@ fn compile_accepted(sheet: &[u32], text: &[u16], code: &mut CodeGen, work: &mut 
 {
     clear_all(code, work);
     let n = program::line::compile_prog(sheet, text, code, work);
-    if 0 < code.st[LIST_FULL] {
+    if code.st.list_full {
         return refuse(code, work, Refusal::ListTooShort);
     }
-    if most_records(code.list.len()) <= code.st[RECORDS] {
+    if most_records(code.list.len()) <= code.st.records {
         return refuse(code, work, Refusal::ListTooShort);
     }
     resolution::resolve::close_up(code, work, n);
@@ -109,7 +107,7 @@ pub fn compile(
         list,
         notes,
         book,
-        st: [0; CELLS],
+        st: State::empty(),
     };
     let answer = compile_checked(sheet, text, &mut code, work);
     let CodeGen { .. } = code;

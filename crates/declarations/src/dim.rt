@@ -14,6 +14,7 @@ use recorder::call::Call;
 use recorder::codegen::CodeGen;
 use recorder::word::Range;
 use rules::tables::Wants;
+use sheet::form::ExprKind;
 
 // An array's name behind its subscripts: call 28.
 fn dim_node(src: &Source, code: &mut CodeGen, o: Option<Range>, n: u32)
@@ -39,14 +40,25 @@ fn dim_one(src: &Source, code: &mut CodeGen, at: usize, left: usize) -> usize
     }
     let k = recorder::word::payload_at(src.sheet, at);
     let p = recorder::word::behind(src.sheet, recorder::word::behind(src.sheet, at));
-    if k == 7 {
-        let o = nodes::node::opt_range_at(src.sheet, p);
-        let c = expressions::expr::read_payload(src.sheet, recorder::word::behind(src.sheet, p));
-        let x = expressions::expr::compile_args(src, code, c.at, c.value, Wants::Every, left - 1);
-        dim_node(src, code, o, c.value);
-        x
-    } else {
-        walk::stmt::skip_expr(src.sheet, at, left)
+    match ExprKind::of(k) {
+        ExprKind::Index => {
+            let o = nodes::node::opt_range_at(src.sheet, p);
+            let c = expressions::expr::read_payload(
+                src.sheet,
+                recorder::word::behind(src.sheet, p),
+            );
+            let x = expressions::expr::compile_args(
+                src,
+                code,
+                c.at,
+                c.value,
+                Wants::Every,
+                left - 1,
+            );
+            dim_node(src, code, o, c.value);
+            x
+        }
+        _ => walk::stmt::skip_expr(src.sheet, at, left),
     }
 }
 

@@ -150,27 +150,11 @@ unfolding expr_node skip_fields expr_fields
 other s f g c k zero r p e = rw e (refl, refl)
 other s f g c k (suc j) r p e = let e' : k ≡ suc (suc (suc (suc (suc (suc (suc (suc (suc (suc j))))))))) = omega arith in rw e' (refl, refl)
 
-nine_more : (k : ℕ) → suc (suc (suc (suc (suc (suc (suc (suc (suc k)))))))) ≡ 9 + (suc (suc (suc (suc (suc (suc (suc (suc (suc k)))))))) - 9)
-nine_more k = omega arith
-
-above : (k : ℕ) → (k ≡ 0 → ⊥) → (k ≡ 1 → ⊥) → (k ≡ 2 → ⊥) → (k ≡ 3 → ⊥) → (k ≡ 4 → ⊥) → (k ≡ 5 → ⊥) → (k ≡ 6 → ⊥) → (k ≡ 7 → ⊥) → (k ≡ 8 → ⊥) → k ≡ 9 + (k - 9)
-above zero n0 n1 n2 n3 n4 n5 n6 n7 n8 = absurd (n0 refl)
-above (suc zero) n0 n1 n2 n3 n4 n5 n6 n7 n8 = absurd (n1 refl)
-above (suc (suc zero)) n0 n1 n2 n3 n4 n5 n6 n7 n8 = absurd (n2 refl)
-above (suc (suc (suc zero))) n0 n1 n2 n3 n4 n5 n6 n7 n8 = absurd (n3 refl)
-above (suc (suc (suc (suc zero)))) n0 n1 n2 n3 n4 n5 n6 n7 n8 = absurd (n4 refl)
-above (suc (suc (suc (suc (suc zero))))) n0 n1 n2 n3 n4 n5 n6 n7 n8 = absurd (n5 refl)
-above (suc (suc (suc (suc (suc (suc zero)))))) n0 n1 n2 n3 n4 n5 n6 n7 n8 = absurd (n6 refl)
-above (suc (suc (suc (suc (suc (suc (suc zero))))))) n0 n1 n2 n3 n4 n5 n6 n7 n8 = absurd (n7 refl)
-above (suc (suc (suc (suc (suc (suc (suc (suc zero)))))))) n0 n1 n2 n3 n4 n5 n6 n7 n8 = absurd (n8 refl)
-above (suc (suc (suc (suc (suc (suc (suc (suc (suc k))))))))) n0 n1 n2 n3 n4 n5 n6 n7 n8 = nine_more k
-
-pub at_other : (s t : List ℕ) (base left at k : ℕ) (r : Range) (p : ℕ) (m : Mem) → Head s left at k r p
-    → (k ≡ 0 → ⊥) → (k ≡ 1 → ⊥) → (k ≡ 2 → ⊥) → (k ≡ 3 → ⊥) → (k ≡ 4 → ⊥) → (k ≡ 5 → ⊥) → (k ≡ 6 → ⊥) → (k ≡ 7 → ⊥) → (k ≡ 8 → ⊥) → Compiled s t base left at m m p Error
+pub at_other : (s t : List ℕ) (base left at k : ℕ) (r : Range) (p : ℕ) (m : Mem) → Head s left at k r p → 9 ≤ k → Compiled s t base left at m m p Error
 unfolding compile_expr
-at_other s t base left at k r p m h n0 n1 n2 n3 n4 n5 n6 n7 n8 =
+at_other s t base left at k r p m h n =
     let o : (expr_node s (expr_at s (left - 1)) (skip_node s (left - 1) exprSort) k r p ≡ error r) × (skip_fields s (skip_node s (left - 1)) (expr_fields k) p ≡ p) =
-    other s (expr_at s (left - 1)) (skip_node s (left - 1) exprSort) (skip_node s (left - 1)) k (k - 9) r p (above k n0 n1 n2 n3 n4 n5 n6 n7 n8) in
+    other s (expr_at s (left - 1)) (skip_node s (left - 1) exprSort) (skip_node s (left - 1)) k (k - 9) r p (omega arith) in
     record { place = rw (over s left at k r p h, o.1); result = rw (node s left at k r p h, o.0) }
 
 -- one turn of the loop over arguments: n are left, the i-th is next

@@ -12,6 +12,7 @@ use recorder::codegen::CodeGen;
 use recorder::word::Range;
 use rules::tables::Wants;
 use rules::types::Type;
+use sheet::form::ExprKind;
 
 // What an expression leaves besides the state: the place behind it, its kind.
 #[derive(Clone, Copy)]
@@ -86,19 +87,19 @@ pub fn compile_expr(src: &Source, code: &mut CodeGen, at: usize, left: usize) ->
     let k = recorder::word::payload_at(src.sheet, at);
     let r = node_range(src.sheet, at);
     let p = recorder::word::behind(src.sheet, recorder::word::behind(src.sheet, at));
-    match k {
-        0 => {
+    match ExprKind::of(k) {
+        ExprKind::Ident => {
             let ty = nodes::node::var_node(src, code, r);
             TypedBehind { at: p, ty }
         }
-        1 => {
+        ExprKind::StringLit => {
             nodes::node::text_node(src, code, r);
             TypedBehind {
                 at: p,
                 ty: Type::String,
             }
         }
-        2 => {
+        ExprKind::NumberLit => {
             let e = read_payload(src.sheet, p);
             let m = mantissa_at(src.sheet, e.at);
             let q = recorder::word::behind(src.sheet, recorder::word::behind(src.sheet, e.at));
@@ -108,7 +109,7 @@ pub fn compile_expr(src: &Source, code: &mut CodeGen, at: usize, left: usize) ->
                 ty: Type::Real,
             }
         }
-        3 => {
+        ExprKind::SysFuncCall => {
             let f = op_at(src.sheet, p);
             let fr = f.range;
             let c = read_payload(src.sheet, f.at);
@@ -117,7 +118,7 @@ pub fn compile_expr(src: &Source, code: &mut CodeGen, at: usize, left: usize) ->
             let ty = nodes::node::func_node(code, f.kind, c.value, r);
             TypedBehind { at: x, ty }
         }
-        4 => {
+        ExprKind::UserFuncCall => {
             let o = nodes::node::opt_range_at(src.sheet, p);
             let q = recorder::word::behind(src.sheet, p);
             let y = nodes::node::opt_real_sym(src, code, o);
@@ -130,7 +131,7 @@ pub fn compile_expr(src: &Source, code: &mut CodeGen, at: usize, left: usize) ->
                 ty: Type::Real,
             }
         }
-        5 => {
+        ExprKind::Binary => {
             let x = compile_expr(src, code, p, left - 1);
             let xt = x.ty;
             let o = op_at(src.sheet, x.at);
@@ -142,7 +143,7 @@ pub fn compile_expr(src: &Source, code: &mut CodeGen, at: usize, left: usize) ->
             let ty = nodes::node::binary_node(code, o.kind, r, ar, or, br, xt, yt);
             TypedBehind { at: y.at, ty }
         }
-        6 => {
+        ExprKind::Unary => {
             let o = op_at(src.sheet, p);
             let x = compile_expr(src, code, o.at, left - 1);
             let xt = x.ty;
@@ -150,21 +151,21 @@ pub fn compile_expr(src: &Source, code: &mut CodeGen, at: usize, left: usize) ->
             let ty = nodes::node::unary_node(code, o.kind, r, ar, xt);
             TypedBehind { at: x.at, ty }
         }
-        7 => {
+        ExprKind::Index => {
             let o = nodes::node::opt_range_at(src.sheet, p);
             let c = read_payload(src.sheet, recorder::word::behind(src.sheet, p));
             let x = compile_args(src, code, c.at, c.value, Wants::Every, left - 1);
             let ty = nodes::node::index_node(src, code, o, r, c.value);
             TypedBehind { at: x, ty }
         }
-        8 => {
+        ExprKind::Inkey => {
             code.emit(r, Call::Inkey);
             TypedBehind {
                 at: p,
                 ty: Type::String,
             }
         }
-        _ => TypedBehind {
+        ExprKind::Error => TypedBehind {
             at: p,
             ty: Type::Error,
         },
@@ -208,7 +209,6 @@ pub fn compile_typed(src: &Source, code: &mut CodeGen, at: usize, left: usize, w
 }
 
 // compile_lvalue: a place to store, which is a variable or an array's element; anything else makes nothing.
-#[tactic(auto, using(crate::proofs::ExprLaws::head, crate::proofs::ExprLaws::place_other))]
 pub fn compile_lvalue(src: &Source, code: &mut CodeGen, at: usize, left: usize) -> TypedBehind
     ensures same { SameLoans code.old code.new }
     ensures value { CompiledPlace src.now.sheet.now src.now.text.now src.now.base left at (mem_of code.old) (mem_of code.new) result.at result.ty }
@@ -222,12 +222,12 @@ pub fn compile_lvalue(src: &Source, code: &mut CodeGen, at: usize, left: usize) 
     let k = recorder::word::payload_at(src.sheet, at);
     let r = node_range(src.sheet, at);
     let p = recorder::word::behind(src.sheet, recorder::word::behind(src.sheet, at));
-    match k {
-        0 => {
+    match ExprKind::of(k) {
+        ExprKind::Ident => {
             let ty = nodes::node::var_place(src, code, r);
             TypedBehind { at: p, ty }
         }
-        7 => {
+        ExprKind::Index => {
             let o = nodes::node::opt_range_at(src.sheet, p);
             let c = read_payload(src.sheet, recorder::word::behind(src.sheet, p));
             let x = compile_args(src, code, c.at, c.value, Wants::Every, left - 1);

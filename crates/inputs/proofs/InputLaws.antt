@@ -1,10 +1,10 @@
 -- INPUT: one law for each way out.
 use mathlib.Core.Path.{◌≡◌, refl, sym as inv, ap, ◌∙◌}
 use mathlib.Core.List.{List}
-use mathlib.Core.Bool.{Bool, false}
+use mathlib.Core.Bool.{Bool, true, false}
 use Prim.Native.Nat.{ℕ, zero, suc, ◌-◌, ◌≤◌, ◌<◌}
 use lib.Dec.{eqb}
-use borrow.Author.Tests.{ne_eqb}
+use borrow.Author.Tests.{eq-eqb, ne_eqb}
 use native.Mathlib.Omega.{arith}
 use Rattle.recorder.specs.declared.word.Range.{Range}
 use Rattle.recorder.specs.Word.{payload_at, range_at, next}
@@ -12,6 +12,11 @@ use Rattle.recorder.specs.Mem.{Mem, mem_r}
 use Rattle.sheet.specs.declared.form.Item.TheVariants.{Source as source}
 use Rattle.sheet.specs.declared.form.Sort.TheVariants.{Expr as exprSort, InputPlace as inputSort}
 use Rattle.sheet.specs.declared.form.Shape.TheVariants.{Input}
+use Rattle.sheet.specs.declared.form.SourceKind.{SourceKind}
+use Rattle.sheet.specs.declared.form.SourceKind.TheVariants.{Keyboard, KeyboardWithPrompt, File}
+use Rattle.sheet.specs.Table.{source_kind}
+use Rattle.sheet.proofs.Cases.{keyboard_number, prompt_number, file_number}
+use Rattle.std.proofs.Common.{◌⊎◌, inl, inr}
 use Rattle.sheet.specs.Skip.{skip_node, skip_repeat, skip_list, skip_fields, skip_field, skip_times, skip_pair, skip_item}
 use Rattle.sheet.specs.Tree.{Expr, Stmt, expr_range, count, expr_at, expr_node, exprs_at, opt_at, stmt_node, source_of, args_at}
 use Rattle.rules.specs.declared.types.«Type».{«Type» as Ty}
@@ -43,10 +48,16 @@ pub ident_zero : (s : List ℕ) (left at : ℕ) → left ≡ 0 → false ≡ is_
 unfolding expr_at
 ident_zero s left at e = rw e
 
-pub ident_there : (s : List ℕ) (left at k : ℕ) → (left ≡ 0 → ⊥) → k ≡ payload_at s at → eqb k 0 ≡ is_ident (expr_at s left at)
+ident_there : (s : List ℕ) (left at k : ℕ) → (left ≡ 0 → ⊥) → k ≡ payload_at s at → eqb k 0 ≡ is_ident (expr_at s left at)
 ident_there s left at k d e =
     rw (node s left at k (range_at s (next s at)) (next s (next s at)) (record { deep = d; kind = e; range = refl; behind = refl }))
     (ident_case s (expr_at s (left - 1)) (skip_node s (left - 1) exprSort) k (range_at s (next s at)) (next s (next s at)))
+
+pub ident_yes : (s : List ℕ) (left at k : ℕ) → (left ≡ 0 → ⊥) → k ≡ payload_at s at → k ≡ 0 → true ≡ is_ident (expr_at s left at)
+ident_yes s left at k d e z = inv (eq-eqb k 0 z) ∙ ident_there s left at k d e
+
+pub ident_no : (s : List ℕ) (left at k : ℕ) → (left ≡ 0 → ⊥) → k ≡ payload_at s at → (k ≡ 0 → ⊥) → false ≡ is_ident (expr_at s left at)
+ident_no s left at k d e z = inv (ne_eqb k 0 z) ∙ ident_there s left at k d e
 
 pub input_fn_of : (s t : List ℕ) (base left at : ℕ) (r : Range) (o : Option Range) (q x y : ℕ) (b : Bool) (ar : Range) (m m1 m2 m3 : Mem) → opt_of o ≡ opt_at s (range_at s) at → q ≡ next s at
     → named m1 x ≡ opt_real_sym (mem_r t) t base (opt_of o) m → b ≡ is_ident (expr_at s left q) → ar ≡ range_at s (next s q)
@@ -107,13 +118,18 @@ taken_all s t base left zero k at at₀ b m m₀ h p q = record { place = p; res
 taken_all s t base left (suc n) k at at₀ b m m₀ h p q = absurd (omega arith)
 
 -- its source
-two_more : (k : ℕ) → (k ≡ 0 → ⊥) → (k ≡ 1 → ⊥) → k ≡ suc (suc (k - 2))
-two_more zero a b = absurd (a refl)
-two_more (suc zero) a b = absurd (b refl)
-two_more (suc (suc k)) a b = omega arith
+pub first : (s : List ℕ) (at k : ℕ) → k ≡ payload_at s at → Keyboard ≡ source_kind k → payload_at s at ≡ 0
+first s at k e h = inv e ∙ keyboard_number k h
 
-pub third : (s : List ℕ) (at k : ℕ) → k ≡ payload_at s at → (k ≡ 0 → ⊥) → (k ≡ 1 → ⊥) → payload_at s at ≡ suc (suc (k - 2))
-third s at k e a b = inv e ∙ two_more k a b
+pub second : (s : List ℕ) (at k : ℕ) → k ≡ payload_at s at → KeyboardWithPrompt ≡ source_kind k → payload_at s at ≡ 1
+second s at k e h = inv e ∙ prompt_number k h
+
+pub third : (s : List ℕ) (at k : ℕ) → k ≡ payload_at s at → File ≡ source_kind k → payload_at s at ≡ suc (suc (k - 2))
+third s at k e h = inv e ∙ file_number k h
+
+pub no_file : (s : List ℕ) (left : ℕ) (child : ℕ → Stmt) (k p : ℕ) (x : SourceKind) → x ≡ source_kind k → (x ≡ Keyboard) ⊎ (x ≡ KeyboardWithPrompt) → false ≡ is_file (source_of s left child k p)
+no_file s left child k p x e (inl h) = rw (keyboard_number k (inv h ∙ e))
+no_file s left child k p x e (inr h) = rw (prompt_number k (inv h ∙ e))
 
 pub at_input : (s t : List ℕ) (base left k at : ℕ) (r : Range) (q n p p1 : ℕ) (b : Bool) (m m1 m2 : Mem) → q ≡ skip_item s (skip_node s left) source at
     → ((child : ℕ → Stmt) → b ≡ is_file (source_of s left child (payload_at s at) (next s at))) → PayloadAt s q n p → TakenAll s t base left p n b m m1 p1

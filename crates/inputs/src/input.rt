@@ -15,13 +15,20 @@ use recorder::call::{Call, Class};
 use recorder::codegen::CodeGen;
 use recorder::word::Range;
 use rules::types::Type;
+use sheet::form::{ExprKind, SourceKind};
 
 // Whether the expression at a place is a variable.
-#[tactic(auto, using(crate::proofs::InputLaws::ident_zero, crate::proofs::InputLaws::ident_there))]
+#[tactic(auto, using(crate::proofs::InputLaws::ident_zero))]
 fn is_ident(sheet: &[u32], at: usize, left: usize) -> bool
     ensures { result ≡ is_ident (expr_at sheet.now left at) }
 {
-    left != 0 && recorder::word::payload_at(sheet, at) == 0
+    if left == 0 {
+        return false;
+    }
+    matches!(
+        ExprKind::of(recorder::word::payload_at(sheet, at)),
+        ExprKind::Ident
+    )
 }
 
 // A function's argument, which must be a variable: else class 12.
@@ -88,12 +95,15 @@ fn input_var(src: &Source, code: &mut CodeGen, at: usize, left: usize, file: boo
     let k = recorder::word::payload_at(src.sheet, at);
     let r = expressions::expr::node_range(src.sheet, at);
     let p = recorder::word::behind(src.sheet, recorder::word::behind(src.sheet, at));
-    if k == 4 {
-        fn_input(src, code, p, left - 1, r, file);
-        walk::stmt::skip_expr(src.sheet, at, left)
-    } else {
-        let x = expressions::expr::compile_lvalue(src, code, at, left);
-        x.at
+    match ExprKind::of(k) {
+        ExprKind::UserFuncCall => {
+            fn_input(src, code, p, left - 1, r, file);
+            walk::stmt::skip_expr(src.sheet, at, left)
+        }
+        _ => {
+            let x = expressions::expr::compile_lvalue(src, code, at, left);
+            x.at
+        }
     }
 }
 
@@ -109,33 +119,34 @@ fn input_vars(src: &Source, code: &mut CodeGen, at: usize, n: u32, left: usize, 
 }
 
 // The keyboard's call 32, behind a prompt that may be there, or a file's call 33 behind its number.
-#[tactic(auto, using(crate::proofs::InputLaws::third))]
+#[tactic(auto, using(crate::proofs::InputLaws::first, crate::proofs::InputLaws::second, crate::proofs::InputLaws::third))]
 fn input_source(src: &Source, code: &mut CodeGen, at: usize, left: usize, r: Range, n: u32)
     ensures same { SameLoans code.old code.new }
     ensures value { (child : ℕ → Stmt) → mem_of code.new ≡ input_source (mem_r src.now.text.now) src.now.text.now src.now.base r n (source_of src.now.sheet.now left child (payload_at src.now.sheet.now at) (next src.now.sheet.now at)) (mem_of code.old) }
 {
     let k = recorder::word::payload_at(src.sheet, at);
     let p = recorder::word::behind(src.sheet, at);
-    match k {
-        0 => code.emit(r, Call::KeyboardInput(false, n)),
-        1 => {
+    match SourceKind::of(k) {
+        SourceKind::Keyboard => code.emit(r, Call::KeyboardInput(false, n)),
+        SourceKind::KeyboardWithPrompt => {
             let pr = recorder::word::range_at(src.sheet, p);
             nodes::node::text_node(src, code, pr);
             code.emit(r, Call::KeyboardInput(true, n))
         }
-        _ => {
+        SourceKind::File => {
             let x = expressions::expr::compile_typed(src, code, p, left, Type::Real);
             code.emit(r, Call::FileInput(n))
         }
     }
 }
 
+#[tactic(auto, using(crate::proofs::InputLaws::third))]
 fn is_file(sheet: &[u32], at: usize) -> bool
     ensures { (left : ℕ) (child : ℕ → Stmt) → result ≡ is_file (source_of sheet.now left child (payload_at sheet.now at) (next sheet.now at)) }
 {
-    match recorder::word::payload_at(sheet, at) {
-        0 | 1 => false,
-        _ => true,
+    match SourceKind::of(recorder::word::payload_at(sheet, at)) {
+        SourceKind::Keyboard | SourceKind::KeyboardWithPrompt => false,
+        SourceKind::File => true,
     }
 }
 

@@ -100,6 +100,7 @@ impl<'a> Chains<'a> {
         ensures { (ms : List Mark) → Indexed self.now ms → result ≡ target_found (addr_of ms label.0) }
     {
         let mut next = self.head_of(label);
+        // The links end it, and nothing is counted; a `for` would need a count beside the chain.
         while let Some(line) = next {
             if self.has_label(line, label) {
                 return Some(Addr(self.word(line, 1)));
@@ -115,6 +116,7 @@ impl<'a> Chains<'a> {
     {
         let mut datum = None;
         let mut next = self.head_of(label);
+        // As in find_label, the links end it, and nothing is counted.
         while let Some(line) = next {
             datum = self.datum_of(line, label).or(datum);
             next = self.before(line);

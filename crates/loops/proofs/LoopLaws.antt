@@ -7,6 +7,7 @@ use lib.ListN.{get_or, length}
 use lib.Dec.{ltb}
 use native.Mathlib.Omega.{arith}
 use Rattle.recorder.specs.declared.word.Range.{Range}
+use Rattle.recorder.specs.declared.codegen.State.{State}
 use Rattle.recorder.specs.Word.{pick, payload_at, range_at, next, flag_of}
 use Rattle.recorder.specs.Mem.{Mem, mem_r, names_in, symbol_number, entry_of, known, as_word, records_in}
 use Rattle.sheet.specs.declared.form.Shape.TheVariants.{For, Next, While}
@@ -37,7 +38,7 @@ below : (c : Bool) (a b : ℕ) → pick c (a % 16777216) (b % 16777216) < 167772
 below true a b = omega arith
 below false a b = omega arith
 
-small : (t b : List ℕ) (s : List ℕ) (x n g : ℕ) → symbol_number t b s x n g < 16777216
+small : (t b : List ℕ) (s : State) (x n g : ℕ) → symbol_number t b s x n g < 16777216
 unfolding symbol_number
 small t b s x n g = below (ltb (entry_of t b s x n g) (known b s)) (get_or b (4 * entry_of t b s x n g) 0) (names_in s)
 

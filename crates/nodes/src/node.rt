@@ -11,8 +11,9 @@ ghost use Rattle.nodes.specs.Compiled.{sym, named, opt_of};
 use crate::source::Source;
 use recorder::call::{Call, Class};
 use recorder::codegen::{CodeGen, Name};
+use recorder::unit::QUOTE;
 use recorder::word::Range;
-use rules::tables::Sig;
+use rules::tables::{ADD, SPC, Sig, TAB};
 use rules::types::Type;
 
 // A symbol's number and its kind.
@@ -137,7 +138,7 @@ fn ends_in_quote(src: &Source, r: Range) -> bool
 {
     let last = rules::name::text_place(src.base, r.end as u32).saturating_sub(1);
     if (r.start as u32) + 1 < (r.end as u32) {
-        recorder::word::unit_at(src.text, last as usize) == 34
+        recorder::word::unit_at(src.text, last as usize) == QUOTE
     } else {
         false
     }
@@ -194,10 +195,8 @@ fn tab_note(code: &mut CodeGen, k: u32, fr: Range)
     ensures same { SameLoans code.old code.new }
     ensures value { (t : List ℕ) (base : ℕ) → mem_of code.new ≡ tab_note (mem_r t) t base k fr (mem_of code.old) }
 {
-    match k {
-        27 => code.note(Class::NotAllowed, fr),
-        28 => code.note(Class::NotAllowed, fr),
-        _ => {}
+    if matches!(k, TAB | SPC) {
+        code.note(Class::NotAllowed, fr)
     }
 }
 
@@ -252,7 +251,7 @@ pub fn user_call(code: &mut CodeGen, o: Option<Range>, r: Range, n: u32)
 fn like_type(k: u32, x: Type) -> Type
     ensures { result ≡ like_type k x }
 {
-    if k == 6 {
+    if k == ADD {
         x.as_rvalue_type()
     } else {
         Type::Real
@@ -262,7 +261,7 @@ fn like_type(k: u32, x: Type) -> Type
 fn unlike_type(k: u32) -> Type
     ensures { result ≡ unlike_type k }
 {
-    if k == 6 { Type::Error } else { Type::Real }
+    if k == ADD { Type::Error } else { Type::Real }
 }
 
 fn like_call(code: &mut CodeGen, k: u32, r: Range, x: Type)
@@ -321,7 +320,7 @@ pub fn binary_node(
     ensures same { SameLoans code.old code.new }
     ensures value { (t : List ℕ) (base : ℕ) → out (mem_of code.new) result ≡ binary_node (mem_r t) t base k r ar o br x y (mem_of code.old) }
 {
-    if k < 7 {
+    if k <= ADD {
         like_node(code, k, r, o, x, y)
     } else {
         arith_node(code, k, r, ar, br, x, y)

@@ -4,7 +4,7 @@ use mathlib.Core.List.{List, ◌∷◌}
 use mathlib.Core.Bool.{Bool, true, false}
 use Prim.Native.Nat.{ℕ, zero, suc, ◌-◌, ◌≤◌, ◌<◌}
 use lib.Dec.{T, eqb}
-use borrow.Author.Tests.{le-ltb, ne_eqb}
+use borrow.Author.Tests.{le-ltb, eq-eqb, ne_eqb}
 use native.Mathlib.Numerals.{sub-one}
 use native.Mathlib.Omega.{arith}
 use Rattle.recorder.specs.declared.word.Range.{Range}
@@ -12,7 +12,10 @@ use Rattle.recorder.specs.Word.{pick, both, either, payload_at, range_at, next}
 use Rattle.recorder.specs.Mem.{Mem, mem_r}
 use Rattle.sheet.specs.declared.form.Sort.TheVariants.{Expr as exprSort}
 use Rattle.sheet.specs.declared.form.Shape.TheVariants.{Print}
-use Rattle.sheet.specs.Table.{expr_fields}
+use Rattle.sheet.specs.declared.form.ElementKind.{ElementKind}
+use Rattle.sheet.specs.declared.form.ElementKind.TheVariants.{Expr as Value, Comma, Semicolon}
+use Rattle.sheet.specs.Table.{element_kind, expr_fields}
+use Rattle.sheet.proofs.Cases.{value_first, value_number, comma_number, semicolon_number}
 use Rattle.sheet.specs.Skip.{skip_node, skip_repeat, skip_list, skip_fields, skip_field, skip_times, skip_pair, skip_item}
 use Rattle.sheet.specs.Tree.{Expr, sys_func_call, Stmt, PrintElement, value, expr_range, expr_at, expr_node, items_at, element_at, element_of, stmt_node, args_at}
 use Rattle.rules.specs.declared.types.«Type».{«Type» as Ty}
@@ -81,6 +84,22 @@ or_not false h = refl
 
 pub tab_other : (s : List ℕ) (left at k : ℕ) → k ≡ payload_at s at → (k ≡ 3 → ⊥) → false ≡ is_tab_spc (expr_at s left at)
 tab_other s left at k hk h = or_not (is_tab_spc (expr_at s left at)) (λ e. h (hk ∙ tab_three s left at e))
+
+-- elements by their numbers
+pub value_yes : (k : ℕ) → Value ≡ element_kind k → eqb k 0 ≡ true
+value_yes k h = eq-eqb k 0 (value_number k h)
+
+pub value_no : (k : ℕ) (x : ElementKind) → x ≡ element_kind k → (x ≡ Value → ⊥) → eqb k 0 ≡ false
+value_no k x e h = ne_eqb k 0 (λ z. h (e ∙ ap element_kind z ∙ value_first))
+
+pub first : (s : List ℕ) (at k : ℕ) → k ≡ payload_at s at → Value ≡ element_kind k → payload_at s at ≡ 0
+first s at k e h = inv e ∙ value_number k h
+
+pub second : (s : List ℕ) (at k : ℕ) → k ≡ payload_at s at → Comma ≡ element_kind k → payload_at s at ≡ 1
+second s at k e h = inv e ∙ comma_number k h
+
+pub third : (s : List ℕ) (at k : ℕ) → k ≡ payload_at s at → Semicolon ≡ element_kind k → payload_at s at ≡ suc (suc (k - 2))
+third s at k e h = inv e ∙ semicolon_number k h
 
 -- calls
 -- what follows a value

@@ -14,7 +14,7 @@ use recorder::codegen::CodeGen;
 use recorder::word::Range;
 use rules::tables::Wants;
 use rules::types::Type;
-use sheet::form::Shape;
+use sheet::form::{ElementKind, ExprKind, Shape};
 
 // The functions 27 TAB and 28 SPC.
 fn tab_or_spc(k: u32) -> bool
@@ -24,19 +24,20 @@ fn tab_or_spc(k: u32) -> bool
 }
 
 // Whether the expression at a place is TAB or SPC itself.
-#[tactic(auto, using(crate::proofs::PrintLaws::tab_zero, crate::proofs::PrintLaws::tab_func, crate::proofs::PrintLaws::tab_other))]
+#[tactic(auto, using(crate::proofs::PrintLaws::tab_zero))]
 fn is_tab_spc(sheet: &[u32], at: usize, left: usize) -> bool
     ensures { result ≡ is_tab_spc (expr_at sheet.now left at) }
 {
     if left == 0 {
         return false;
     }
-    if recorder::word::payload_at(sheet, at) == 3 {
-        let p = recorder::word::behind(sheet, recorder::word::behind(sheet, at));
-        let k = recorder::word::payload_at(sheet, recorder::word::behind(sheet, p));
-        tab_or_spc(k)
-    } else {
-        false
+    match ExprKind::of(recorder::word::payload_at(sheet, at)) {
+        ExprKind::SysFuncCall => {
+            let p = recorder::word::behind(sheet, recorder::word::behind(sheet, at));
+            let k = recorder::word::payload_at(sheet, recorder::word::behind(sheet, p));
+            tab_or_spc(k)
+        }
+        _ => false,
     }
 }
 
@@ -74,10 +75,15 @@ fn blank_between(code: &mut CodeGen, r: Range)
 }
 
 // Whether a blank follows: the next element is an expression, and this one is not TAB or SPC.
+#[tactic(auto, using(crate::proofs::PrintLaws::value_yes, crate::proofs::PrintLaws::value_no))]
 fn wants_blank(sheet: &[u32], at: usize, tabbed: bool) -> bool
     ensures { result ≡ both (eqb (payload_at sheet.now at) 0) (pick tabbed false true) }
 {
-    !tabbed && recorder::word::payload_at(sheet, at) == 0
+    !tabbed
+        && matches!(
+            ElementKind::of(recorder::word::payload_at(sheet, at)),
+            ElementKind::Expr
+        )
 }
 
 // What follows an expression: `more` counts its element and those behind it, the next of which is at the place.
@@ -141,6 +147,7 @@ fn print_value(
 }
 
 // One element: `more` counts it and those behind it.
+#[tactic(auto, using(crate::proofs::PrintLaws::first, crate::proofs::PrintLaws::second, crate::proofs::PrintLaws::third))]
 fn print_one(src: &Source, code: &mut CodeGen, at: usize, left: usize, more: u32, r: Range) -> usize
     ensures same { SameLoans code.old code.new }
     ensures value { OnePrinted src.now.sheet.now src.now.text.now src.now.base left more r at (mem_of code.old) (mem_of code.new) result }
@@ -148,14 +155,14 @@ fn print_one(src: &Source, code: &mut CodeGen, at: usize, left: usize, more: u32
     let k = recorder::word::payload_at(src.sheet, at);
     let q = recorder::word::behind(src.sheet, at);
     let p = recorder::word::behind(src.sheet, q);
-    match k {
-        0 => print_value(src, code, q, left, more, r),
-        1 => {
+    match ElementKind::of(k) {
+        ElementKind::Expr => print_value(src, code, q, left, more, r),
+        ElementKind::Comma => {
             let er = recorder::word::range_at(src.sheet, q);
             code.emit(er, Call::Newline);
             p
         }
-        _ => p,
+        ElementKind::Semicolon => p,
     }
 }
 

@@ -7,7 +7,7 @@ use native.Mathlib.Numerals.{sub-one}
 use native.Mathlib.Omega.{arith}
 use Rattle.recorder.specs.Word.{payload_at, next}
 use Rattle.recorder.specs.Marks.{Mark}
-use Rattle.recorder.specs.Mem.{Mem, mem, mem_r}
+use Rattle.recorder.specs.Mem.{Mem, mem_r}
 use Rattle.sheet.specs.Form.{is_absent}
 use Rattle.sheet.specs.Tree.{ProgramLine, target_at, line_at, behind_line, items_at, program_at}
 use Rattle.rules.specs.Program.{Lines as RulesLines, marked, compile_line, compile_lines, first_line}
@@ -21,10 +21,10 @@ pub record Going (s t : List ℕ) (count line : ℕ) (c : Lines) (m₀ m : Mem) 
   pub kept : w₀ ≡ replicate (length w₀) 0 → 3 * payload_at s 0 < length w₀ → payload_at s 0 < 65536 → Kept w c.marks (count - line) marks
   pub lines : compile_lines (mem_r t) t (items_at s (line_at s) (behind_line s) (count - line) c.at) (lines_of c line m marks) ≡ compile_lines (mem_r t) t (program_at s) (first_line (mem_r t) t m₀)
 
-pub going_start : (s t : List ℕ) (count at : ℕ) (l n b w st : List ℕ) → count ≡ payload_at s 0 → at ≡ next s 0
-    → Going s t count 0 (record { at = at; marks = 0; last = 0; base = 0 }) (mem l n b st) (mem l n b st) w w
+pub going_start : (s t : List ℕ) (count at : ℕ) (m : Mem) (w : List ℕ) → count ≡ payload_at s 0 → at ≡ next s 0
+    → Going s t count 0 (record { at = at; marks = 0; last = 0; base = 0 }) m m w w
 unfolding program_at
-going_start s t count at l n b w st hc ha = record {
+going_start s t count at m w hc ha = record {
   marks = [];
   kept = λ z h i. kept_none w (count - 0) z (omega arith) (omega arith);
   lines = let e : count - 0 ≡ payload_at s 0 = omega arith in rw (e, ha);

@@ -1,5 +1,5 @@
 -- The code's recorder as the memory of Mem.antt.
-use Rattle.std.specs.Prelude.{◌≡◌, ℕ}
+use Rattle.std.specs.Prelude.{◌≡◌}
 use Rattle.recorder.specs.declared.codegen.CodeGen.{CodeGen}
 use Rattle.recorder.specs.declared.codegen.Looked.{Looked}
 use Rattle.recorder.specs.Recorder.{Look}

@@ -1,8 +1,9 @@
--- The memory that is compiled into: three lists of words of fixed lengths, and the numbers of the state.
+-- The memory that is compiled into: three lists of words of fixed lengths, and the state.
 -- A put that does not fit changes no word and sets its buffer's flag, which stays.
-use Rattle.std.specs.Prelude.{List, ◌++◌, Bool, false, ℕ, zero, suc, ◌+◌, ◌*◌, ◌-◌, ◌/◌, ◌%◌, ◌^◌, min, ltb, eqb, length, get_or, set, take, drop, replicate}
+use Rattle.std.specs.Prelude.{List, ◌++◌, Bool, true, false, ℕ, zero, suc, ◌+◌, ◌*◌, ◌-◌, ◌/◌, ◌%◌, ◌^◌, min, ltb, eqb, length, get_or, set, take, drop}
 use Rattle.recorder.specs.declared.word.Range.{Range}
 use Rattle.recorder.specs.declared.codegen.Descent.{Descent}
+use Rattle.recorder.specs.declared.codegen.State.{State}
 use Rattle.recorder.specs.Word.{pick, both, kind, kind_at, payload_at, range_at, word_of, range_word, next}
 use Rattle.recorder.specs.Name.{upper, same_name}
 use Rattle.recorder.specs.Layout.{rec_size, note_size, entry_size, range_word_at, arg_a, arg_b, arg_c, extra_at, most_records}
@@ -14,96 +15,68 @@ pub record Mem : Type 0 where
   pub list : List ℕ
   pub notes : List ℕ
   pub book : List ℕ
-  pub st : List ℕ
+  pub st : State
 
-abbrev pub mem : List ℕ → List ℕ → List ℕ → List ℕ → Mem
+abbrev pub mem : List ℕ → List ℕ → List ℕ → State → Mem
 mem l n b s = record { list = l; notes = n; book = b; st = s }
 
--- The state's numbers, each at its place: the counts of records, notes, entries and names, the first name's entry plus 1 (0 without
--- one), the counts of data and bytes, the current line, its first datum plus 1 (0 while it has none), and three flags: above 0 once
--- a record, a note or an entry did not fit.
-abbrev pub state_length : ℕ
-state_length = 12
+-- the state's parts
+abbrev pub records_in : State → ℕ
+records_in s = s.records
 
-abbrev pub at_records : ℕ
-at_records = 0
+abbrev pub notes_in : State → ℕ
+notes_in s = s.notes
 
-abbrev pub at_notes : ℕ
-at_notes = 1
+abbrev pub entries_in : State → ℕ
+entries_in s = s.entries
 
-abbrev pub at_entries : ℕ
-at_entries = 2
+abbrev pub names_in : State → ℕ
+names_in s = s.names
 
-abbrev pub at_names : ℕ
-at_names = 3
+abbrev pub root_in : State → ℕ
+root_in s = s.root
 
-abbrev pub at_root : ℕ
-at_root = 4
+abbrev pub datums_in : State → ℕ
+datums_in s = s.datums
 
-abbrev pub at_datums : ℕ
-at_datums = 5
+abbrev pub bytes_in : State → ℕ
+bytes_in s = s.bytes
 
-abbrev pub at_bytes : ℕ
-at_bytes = 6
+abbrev pub line_in : State → ℕ
+line_in s = s.line
 
-abbrev pub at_line : ℕ
-at_line = 7
+abbrev pub first_in : State → ℕ
+first_in s = s.first
 
-abbrev pub at_first : ℕ
-at_first = 8
+abbrev pub list_full : State → Bool
+list_full s = s.list_full
 
-abbrev pub at_list_full : ℕ
-at_list_full = 9
+abbrev pub notes_full : State → Bool
+notes_full s = s.notes_full
 
-abbrev pub at_notes_full : ℕ
-at_notes_full = 10
-
-abbrev pub at_book_full : ℕ
-at_book_full = 11
-
-abbrev pub records_in : List ℕ → ℕ
-records_in s = get_or s at_records 0
-
-abbrev pub notes_in : List ℕ → ℕ
-notes_in s = get_or s at_notes 0
-
-abbrev pub entries_in : List ℕ → ℕ
-entries_in s = get_or s at_entries 0
-
-abbrev pub names_in : List ℕ → ℕ
-names_in s = get_or s at_names 0
-
-abbrev pub root_in : List ℕ → ℕ
-root_in s = get_or s at_root 0
-
-abbrev pub datums_in : List ℕ → ℕ
-datums_in s = get_or s at_datums 0
-
-abbrev pub bytes_in : List ℕ → ℕ
-bytes_in s = get_or s at_bytes 0
-
-abbrev pub line_in : List ℕ → ℕ
-line_in s = get_or s at_line 0
-
-abbrev pub first_in : List ℕ → ℕ
-first_in s = get_or s at_first 0
-
-abbrev pub list_full : List ℕ → Bool
-list_full s = ltb 0 (get_or s at_list_full 0)
-
-abbrev pub notes_full : List ℕ → Bool
-notes_full s = ltb 0 (get_or s at_notes_full 0)
-
-abbrev pub book_full : List ℕ → Bool
-book_full s = ltb 0 (get_or s at_book_full 0)
+abbrev pub book_full : State → Bool
+book_full s = s.book_full
 
 -- nothing written yet
-abbrev pub nothing : List ℕ
-nothing = replicate state_length 0
+abbrev pub nothing : State
+nothing = record {
+  records = 0;
+  notes = 0;
+  entries = 0;
+  names = 0;
+  root = 0;
+  datums = 0;
+  bytes = 0;
+  line = 0;
+  first = 0;
+  list_full = false;
+  notes_full = false;
+  book_full = false;
+}
 
 -- begin_line: the line that records and notes carry from here on, without a datum so far
-abbrev pub on_line : List ℕ → ℕ → List ℕ
-on_line s l = set (set s at_line l) at_first 0
+abbrev pub on_line : State → ℕ → State
+on_line s l = record s { line = l; first = 0 }
 
 -- what of a count goes into a word
 abbrev pub as_word : ℕ → ℕ
@@ -118,31 +91,31 @@ unfoldable pub more : ℕ → ℕ → ℕ
 more n room = pick (ltb n room) (n + 1) n
 
 -- a record: five words
-unfoldable pub put_list : List ℕ → List ℕ → ℕ → ℕ → ℕ → ℕ → ℕ → List ℕ
+unfoldable pub put_list : List ℕ → State → ℕ → ℕ → ℕ → ℕ → ℕ → List ℕ
 put_list l s h r a b c = pick (ltb (records_in s) (most_records (length l)))
     (set (set (set (set (set l (rec_size * records_in s) h) (rec_size * records_in s + range_word_at) r) (rec_size * records_in s + arg_a) a) (rec_size * records_in s + arg_b) b) (rec_size * records_in s + arg_c) c) l
 
-unfoldable pub put_st : List ℕ → List ℕ → List ℕ
-put_st l s = pick (ltb (records_in s) (most_records (length l))) (set s at_records (records_in s + 1)) (set s at_list_full 1)
+unfoldable pub put_st : List ℕ → State → State
+put_st l s = pick (ltb (records_in s) (most_records (length l))) (record s { records = s.records + 1 }) (record s { list_full = true })
 
-abbrev pub put_rec : List ℕ → List ℕ → ℕ → Range → ℕ → ℕ → ℕ → List ℕ
+abbrev pub put_rec : List ℕ → State → ℕ → Range → ℕ → ℕ → ℕ → List ℕ
 put_rec l s k r a b c = put_list l s (word_of k (line_in s)) (range_word r) a b c
 
 -- a note, or an entry: the n-th four words
 abbrev pub four : List ℕ → ℕ → ℕ → ℕ → ℕ → ℕ → List ℕ
 four l n h x y z = set (set (set (set l (4 * n) h) (4 * n + 1) x) (4 * n + 2) y) (4 * n + 3) z
 
-unfoldable pub note_list : List ℕ → List ℕ → ℕ → ℕ → ℕ → List ℕ
+unfoldable pub note_list : List ℕ → State → ℕ → ℕ → ℕ → List ℕ
 note_list l s h r v = pick (ltb (notes_in s) (length l / note_size)) (four l (notes_in s) h r v 0) l
 
-unfoldable pub note_st : List ℕ → List ℕ → List ℕ
-note_st l s = pick (ltb (notes_in s) (length l / note_size)) (set s at_notes (notes_in s + 1)) (set s at_notes_full 1)
+unfoldable pub note_st : List ℕ → State → State
+note_st l s = pick (ltb (notes_in s) (length l / note_size)) (record s { notes = s.notes + 1 }) (record s { notes_full = true })
 
-unfoldable pub entry_list : List ℕ → List ℕ → ℕ → ℕ → ℕ → ℕ → List ℕ
+unfoldable pub entry_list : List ℕ → State → ℕ → ℕ → ℕ → ℕ → List ℕ
 entry_list b s h x y z = pick (ltb (entries_in s) (length b / entry_size)) (four b (entries_in s) h x y z) b
 
-unfoldable pub entry_st : List ℕ → List ℕ → List ℕ
-entry_st b s = pick (ltb (entries_in s) (length b / entry_size)) (set s at_entries (entries_in s + 1)) (set s at_book_full 1)
+unfoldable pub entry_st : List ℕ → State → State
+entry_st b s = pick (ltb (entries_in s) (length b / entry_size)) (record s { entries = s.entries + 1 }) (record s { book_full = true })
 
 -- While compiling, the names of the book are a binary tree, gone through by the bits of a hash of the name. A name's last word has
 -- a code of its sigil in its low 2 bits, and above it, 15 bits each, the entries of its two children, later names, 0 for none.
@@ -161,7 +134,7 @@ abbrev pub with_link : Bool → ℕ → ℕ → ℕ
 with_link high w k = pick high (w % 131072 + 131072 * (k % 32768)) (w / 131072 * 131072 + 4 * (k % 32768) + w % 4)
 
 -- the entries that the book has
-abbrev pub known : List ℕ → List ℕ → ℕ
+abbrev pub known : List ℕ → State → ℕ
 known b s = min (entries_in s) (length b / entry_size)
 
 -- the hash: a number of 32 bits from a name's units in upper case, its highest bit chooses the first child
@@ -210,45 +183,45 @@ unfoldable pub descent_from : List ℕ → List ℕ → ℕ → ℕ → ℕ → 
 descent_from t b end x n g w zero = w
 descent_from t b end x n g w (suc left) = pick (named_at t b w.at x n g) w (pick (has_child b end w) (descent_from t b end x n g (to_child (child_of b w) w) left) w)
 
-unfoldable pub descent_to : List ℕ → List ℕ → List ℕ → ℕ → ℕ → ℕ → Descent
+unfoldable pub descent_to : List ℕ → List ℕ → State → ℕ → ℕ → ℕ → Descent
 descent_to t b s x n g = descent_from t b (known b s) x n g (record { at = root_in s - 1; bits = hash_of t x (sigil_code g) n }) (known b s)
 
 -- the entry of a name; `known` if there is none
-unfoldable pub entry_of : List ℕ → List ℕ → List ℕ → ℕ → ℕ → ℕ → ℕ
+unfoldable pub entry_of : List ℕ → List ℕ → State → ℕ → ℕ → ℕ → ℕ
 entry_of t b s x n g =
     pick (both (ltb 0 (root_in s)) (both (ltb (descent_to t b s x n g).at (known b s)) (named_at t b (descent_to t b s x n g).at x n g)))
     (descent_to t b s x n g).at
     (lookup t b x n g (min (known b s) 32768) (known b s - 32768))
 
 -- the next entry is one that a tree may hold
-abbrev pub may_link : List ℕ → List ℕ → Bool
+abbrev pub may_link : List ℕ → State → Bool
 may_link b s = both (ltb (entries_in s) (length b / entry_size)) (ltb (entries_in s) 32768)
 
 -- a new name, the next entry, is linked where its descent ends
 unfoldable pub linked_at : List ℕ → ℕ → Descent → List ℕ
 linked_at b k w = pick (ltb w.at (length b / entry_size)) (set b (entry_size * w.at + extra_at) (with_link (ltb 2147483647 w.bits) (get_or b (entry_size * w.at + extra_at) 0) k)) b
 
-unfoldable pub linked : List ℕ → List ℕ → Descent → List ℕ
+unfoldable pub linked : List ℕ → State → Descent → List ℕ
 linked b s w = pick (both (ltb 0 (root_in s)) (may_link b s)) (linked_at b (entries_in s) w) b
 
 -- the first name of the tree plus 1, or 0
-unfoldable pub root_of : List ℕ → List ℕ → ℕ
+unfoldable pub root_of : List ℕ → State → ℕ
 root_of b s = pick (both (eqb (root_in s) 0) (may_link b s)) (entries_in s + 1) (root_in s)
 
 -- a new name with the tag v, whose descent ends at w: linked, and put as the next entry
-abbrev pub new_list : List ℕ → List ℕ → Descent → ℕ → ℕ → ℕ → ℕ → List ℕ
+abbrev pub new_list : List ℕ → State → Descent → ℕ → ℕ → ℕ → ℕ → List ℕ
 new_list b s w v x n g = entry_list (linked b s w) s (word_of v (low (names_in s))) x n (sigil_code g)
 
-abbrev pub new_st : List ℕ → List ℕ → List ℕ
-new_st b s = set (set (entry_st b s) at_names (more (names_in s) (length b / entry_size))) at_root (root_of b s)
+abbrev pub new_st : List ℕ → State → State
+new_st b s = record (entry_st b s) { names = more (names_in s) (length b / entry_size); root = root_of b s }
 
-unfoldable pub symbol_number : List ℕ → List ℕ → List ℕ → ℕ → ℕ → ℕ → ℕ
+unfoldable pub symbol_number : List ℕ → List ℕ → State → ℕ → ℕ → ℕ → ℕ
 symbol_number t b s x n g = pick (ltb (entry_of t b s x n g) (known b s)) (payload_at b (entry_size * entry_of t b s x n g)) (low (names_in s))
 
-unfoldable pub symbol_list : List ℕ → List ℕ → List ℕ → ℕ → ℕ → ℕ → List ℕ
+unfoldable pub symbol_list : List ℕ → List ℕ → State → ℕ → ℕ → ℕ → List ℕ
 symbol_list t b s x n g = pick (ltb (entry_of t b s x n g) (known b s)) b (new_list b s (descent_to t b s x n g) (name_tag t x n g) x n g)
 
-unfoldable pub symbol_st : List ℕ → List ℕ → List ℕ → ℕ → ℕ → ℕ → List ℕ
+unfoldable pub symbol_st : List ℕ → List ℕ → State → ℕ → ℕ → ℕ → State
 symbol_st t b s x n g = pick (ltb (entry_of t b s x n g) (known b s)) s (new_st b s)
 
 -- closing up: a name's head has its kind again, its last word is its sigil
@@ -262,21 +235,21 @@ unfoldable pub unlink_from : List ℕ → ℕ → ℕ → List ℕ
 unlink_from b k zero = b
 unlink_from b k (suc left) = unlink_from (unlink_at b k) (k + 1) left
 
-unfoldable pub unlinked : List ℕ → List ℕ → List ℕ
+unfoldable pub unlinked : List ℕ → State → List ℕ
 unlinked b s = unlink_from b 0 (known b s)
 
 -- a datum; the line's first datum is set whether it fits or not
-unfoldable pub datum_list : List ℕ → List ℕ → ℕ → ℕ → ℕ → List ℕ
+unfoldable pub datum_list : List ℕ → State → ℕ → ℕ → ℕ → List ℕ
 datum_list b s x n q = entry_list b s (word_of 51 (low (datums_in s))) x n q
 
-unfoldable pub datum_st : List ℕ → List ℕ → List ℕ
-datum_st b s = set (set (entry_st b s) at_datums (more (datums_in s) (length b / entry_size))) at_first (first_of (first_in s) (low (datums_in s)))
+unfoldable pub datum_st : List ℕ → State → State
+datum_st b s = record (entry_st b s) { datums = more (datums_in s) (length b / entry_size); first = first_of (first_in s) (low (datums_in s)) }
 
-unfoldable pub byte_list : List ℕ → List ℕ → ℕ → ℕ → ℕ → List ℕ
+unfoldable pub byte_list : List ℕ → State → ℕ → ℕ → ℕ → List ℕ
 byte_list b s x n v = entry_list b s (word_of 52 (low (bytes_in s))) x n v
 
-unfoldable pub byte_st : List ℕ → List ℕ → List ℕ
-byte_st b s = set (entry_st b s) at_bytes (more (bytes_in s) (length b / entry_size))
+unfoldable pub byte_st : List ℕ → State → State
+byte_st b s = record (entry_st b s) { bytes = more (bytes_in s) (length b / entry_size) }
 
 -- an earlier record, written as the part of the list that begins at it
 unfoldable pub part : (List ℕ → List ℕ) → List ℕ → ℕ → List ℕ
@@ -285,7 +258,7 @@ part f l at = take at l ++ f (drop at l)
 unfoldable pub at_rec : (List ℕ → List ℕ) → List ℕ → ℕ → List ℕ
 at_rec f l k = pick (ltb k (length l / rec_size)) (part f l (rec_size * k)) l
 
-unfoldable pub on_rec : (List ℕ → List ℕ) → List ℕ → List ℕ → ℕ → List ℕ
+unfoldable pub on_rec : (List ℕ → List ℕ) → List ℕ → State → ℕ → List ℕ
 on_rec f l s k = pick (ltb k (records_in s)) (at_rec f l k) l
 
 abbrev pub set_a : ℕ → List ℕ → List ℕ
@@ -336,9 +309,9 @@ top_from l top k (suc left) = top_from (while_list l top k) (while_top l top k) 
 pub record Passed : Type 0 where
   pub list : List ℕ
   pub notes : List ℕ
-  pub st : List ℕ
+  pub st : State
 
-abbrev pub passed : List ℕ → List ℕ → List ℕ → Passed
+abbrev pub passed : List ℕ → List ℕ → State → Passed
 passed l n s = record { list = l; notes = n; st = s }
 
 abbrev pub open_step : Passed → ℕ → Passed
@@ -352,10 +325,10 @@ open_from p top zero = p
 open_from p top (suc left) = pick (eqb top 0) p (open_from (open_step p (top - 1)) (link_at p.list (top - 1)) left)
 
 -- the records that the list has
-abbrev pub present : List ℕ → List ℕ → ℕ
+abbrev pub present : List ℕ → State → ℕ
 present l s = min (records_in s) (most_records (length l))
 
-unfoldable pub patch_whiles : List ℕ → List ℕ → List ℕ → Passed
+unfoldable pub patch_whiles : List ℕ → List ℕ → State → Passed
 patch_whiles l n s = open_from (passed (whiles_from l 0 0 (present l s)) n s) (top_from l 0 0 (present l s)) (present l s)
 
 -- convert_for_loop_to_sleep: a record anew but for its line and its range
@@ -399,14 +372,14 @@ unfoldable pub delays_from : List ℕ → ℕ → ℕ → List ℕ
 delays_from l k zero = l
 delays_from l k (suc left) = delays_from (delay_list l k) (k + 1) left
 
-unfoldable pub convert_delays : List ℕ → List ℕ → List ℕ
+unfoldable pub convert_delays : List ℕ → State → List ℕ
 convert_delays l s = delays_from l 0 (present l s)
 
 -- clean_up
 abbrev pub finish : Passed → Passed
 finish p = passed (put_rec (convert_delays p.list p.st) p.st 2 no_range 17 0 0) p.notes (put_st (convert_delays p.list p.st) p.st)
 
-unfoldable pub clean_up_all : List ℕ → List ℕ → List ℕ → Passed
+unfoldable pub clean_up_all : List ℕ → List ℕ → State → Passed
 clean_up_all l n s = finish (patch_whiles l n s)
 
 -- what each function of the recorder does to the memory

@@ -38,7 +38,7 @@ abbrev pub payload_at : List ℕ → ℕ → ℕ
 payload_at s at = payload (get_or s at 0)
 
 -- the place behind a word, or a unit; the end stays
-unfoldable pub next : List ℕ → ℕ → ℕ
+unfoldable pub next : {A : Type 0} → List A → ℕ → ℕ
 next s at = pick (ltb at (length s)) (at + 1) at
 
 -- "01 range: start times 4,096 plus end, within the line."

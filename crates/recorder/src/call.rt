@@ -104,6 +104,7 @@ fn flag(b: bool) -> u32
 }
 
 impl Call {
+    // Each call's own number and parts, said here alone: an enum whose variants have parts takes no numbers.
     #[inline(always)]
     pub fn numbers(self) -> Numbers
         ensures { result ≡ numbers_of self }
@@ -160,46 +161,32 @@ impl Call {
     }
 }
 
-// What a note is about.
+// What a note is about, by document 01's numbers.
 #[derive(Clone, Copy)]
 pub enum Class {
-    LabelsNotRising,
-    TargetMissing,
-    RestoreTargetMissing,
-    KindsDiffer,
-    NameOfWrongKind,
-    TooFewArguments,
-    TooManyArguments,
-    TextTooLong,
-    NumberTooLarge,
-    BlankInName,
-    ValueDropped,
-    NotAllowed,
-    WhileWithoutWend,
+    LabelsNotRising = 1,
+    TargetMissing = 2,
+    RestoreTargetMissing = 3,
+    KindsDiffer = 4,
+    NameOfWrongKind = 5,
+    TooFewArguments = 6,
+    TooManyArguments = 7,
+    TextTooLong = 8,
+    NumberTooLarge = 9,
+    BlankInName = 10,
+    ValueDropped = 11,
+    NotAllowed = 12,
+    WhileWithoutWend = 13,
 }
 
 impl Class {
     pub fn number(self) -> u8
         ensures { result ≡ class_number self }
     {
-        match self {
-            Class::LabelsNotRising => 1,
-            Class::TargetMissing => 2,
-            Class::RestoreTargetMissing => 3,
-            Class::KindsDiffer => 4,
-            Class::NameOfWrongKind => 5,
-            Class::TooFewArguments => 6,
-            Class::TooManyArguments => 7,
-            Class::TextTooLong => 8,
-            Class::NumberTooLarge => 9,
-            Class::BlankInName => 10,
-            Class::ValueDropped => 11,
-            Class::NotAllowed => 12,
-            Class::WhileWithoutWend => 13,
-        }
+        self as u8
     }
 
-    // 1 error or 2 warning.
+    // 1 error or 2 warning: document 01's numbers, said here alone.
     pub fn severity(self) -> u32
         ensures { result ≡ severity_of self }
     {

@@ -6,13 +6,14 @@ ghost use Rattle.recorder.specs.Name.{upper, same_units, same_name};
 ghost use Rattle.recorder.specs.Ideal.{first_of};
 ghost use Rattle.recorder.specs.Layout.{entry_size, extra_at, most_records};
 ghost use Rattle.recorder.specs.Calls.{class_number, severity_of};
-ghost use Rattle.recorder.specs.Mem.{names_in, sigil_code, link_of, with_link, known, named_at, hash_step, hash_of, descent_to, linked_at, linked, root_in, low, more, four, is_name_entry, tag_of, name_tag, tagged_at, lookup, entry_of, set_a, set_c, settle_args, clear_args, look_at, begin_line, put, put_note, note, note_at, put_entry, new_symbol, make_symbol, emit_datum, load_byte, next_byte, first_datum, current_addr, patched};
+ghost use Rattle.recorder.specs.Mem.{nothing, names_in, sigil_code, link_of, with_link, known, named_at, hash_step, hash_of, descent_to, linked_at, linked, root_in, low, more, four, is_name_entry, tag_of, name_tag, tagged_at, lookup, entry_of, set_a, set_c, settle_args, clear_args, look_at, begin_line, put, put_note, note, note_at, put_entry, new_symbol, make_symbol, emit_datum, load_byte, next_byte, first_datum, current_addr, patched};
 ghost use Rattle.recorder.specs.CodeGen.{mem_of, SameLoans, look_is, emit};
 
 use crate::call::{Call, Class};
 use crate::label::{Addr, DatumIndex};
+use crate::unit::{DOLLAR, LOWER_A, LOWER_Z, PERCENT, UPPER_A};
 use crate::word::{
-    Range, behind_unit, kind_at, kind_of, payload_at, range_word, unit_at, word_at, word_of,
+    Range, behind, kind_at, kind_of, payload_at, range_word, unit_at, word_at, word_of,
 };
 
 // How many words a record and an entry have; behind the head of a record stand its range and its three arguments, in an entry last
@@ -31,36 +32,52 @@ pub const C: usize = 4;
 
 pub const EXTRA: usize = 3;
 
-// The state is so many numbers, each with its place: the counts of records, notes, entries and names, the first name's
-// entry plus 1 (0 without one), the counts of data and bytes, the current line with its first datum plus 1 (0 while it has none),
-// and, 0 or 1, whether a record, a note or an entry did not fit.
-pub const CELLS: usize = 12;
+// The code of a sigil in its name's entry, until closing up; without a sigil it is 0.
+pub const DOLLAR_CODE: u32 = 1;
 
-pub type St = [usize; CELLS];
+pub const PERCENT_CODE: u32 = 2;
 
-pub const RECORDS: usize = 0;
+// What is in the buffers: the counts of records, notes, entries and names, the first name's entry plus 1 (0 without one), the counts
+// of data and bytes, the current line with its first datum plus 1 (0 while it has none), and whether a record, a note or an entry did
+// not fit.
+#[derive(Clone, Copy)]
+pub struct State {
+    pub records: usize,
+    pub notes: usize,
+    pub entries: usize,
+    pub names: usize,
+    pub root: usize,
+    pub datums: usize,
+    pub bytes: usize,
+    pub line: usize,
+    pub first: usize,
+    pub list_full: bool,
+    pub notes_full: bool,
+    pub book_full: bool,
+}
 
-pub const NOTES: usize = 1;
-
-pub const ENTRIES: usize = 2;
-
-pub const NAMES: usize = 3;
-
-pub const ROOT: usize = 4;
-
-pub const DATUMS: usize = 5;
-
-pub const BYTES: usize = 6;
-
-pub const LINE: usize = 7;
-
-pub const FIRST: usize = 8;
-
-pub const LIST_FULL: usize = 9;
-
-pub const NOTES_FULL: usize = 10;
-
-pub const BOOK_FULL: usize = 11;
+impl State {
+    // Nothing written yet.
+    #[inline(always)]
+    pub fn empty() -> State
+        ensures { result ≡ nothing }
+    {
+        State {
+            records: 0,
+            notes: 0,
+            entries: 0,
+            names: 0,
+            root: 0,
+            datums: 0,
+            bytes: 0,
+            line: 0,
+            first: 0,
+            list_full: false,
+            notes_full: false,
+            book_full: false,
+        }
+    }
+}
 
 // The buffers that are compiled into, and what is in them.
 #[derive(Drop)]
@@ -68,7 +85,7 @@ pub struct CodeGen<'a> {
     pub list: &'a mut [u32],
     pub notes: &'a mut [u32],
     pub book: &'a mut [u32],
-    pub st: St,
+    pub st: State,
 }
 
 // A name: where its units start in the text, how many they are before its sigil, and the sigil's unit or 0.
@@ -151,7 +168,11 @@ fn put_four(s: &mut [u32], n: usize, h: u32, x: u32, y: u32, z: u32) -> bool
 fn to_ascii_uppercase(x: u16) -> u16
     ensures { result ≡ upper x }
 {
-    if matches!(x, 97..=122) { x - 32 } else { x }
+    if matches!(x, LOWER_A..=LOWER_Z) {
+        x - LOWER_A + UPPER_A
+    } else {
+        x
+    }
 }
 
 fn same_units(text: &[u16], a: usize, b: usize, n: u32) -> bool
@@ -163,8 +184,8 @@ fn same_units(text: &[u16], a: usize, b: usize, n: u32) -> bool
         if to_ascii_uppercase(unit_at(text, p)) != to_ascii_uppercase(unit_at(text, q)) {
             return false;
         }
-        p = behind_unit(text, p);
-        q = behind_unit(text, q);
+        p = behind(text, p);
+        q = behind(text, q);
     }
     true
 }
@@ -183,10 +204,12 @@ fn same_name(text: &[u16], a: u32, n: u32, x: u32, name: &Name) -> bool
 fn sigil_code(g: u32) -> u32
     ensures { result ≡ sigil_code g }
 {
-    match g {
-        36 => 1,
-        37 => 2,
-        _ => 0,
+    if g == DOLLAR as u32 {
+        DOLLAR_CODE
+    } else if g == PERCENT as u32 {
+        PERCENT_CODE
+    } else {
+        0
     }
 }
 
@@ -222,7 +245,7 @@ fn hash_of(text: &[u16], at: u32, first: u32, n: u32) -> u32
     let mut h = first;
     for _ in 0..n {
         h = hash_step(h, to_ascii_uppercase(unit_at(text, p)));
-        p = behind_unit(text, p);
+        p = behind(text, p);
     }
     h
 }
@@ -325,12 +348,12 @@ fn link(book: &mut [u32], descent: &Descent, k: usize)
 
 // The same, where there is a tree and it may hold the next entry.
 #[tactic(auto, unfolding(crate::specs::Mem::linked))]
-fn link_next(book: &mut [u32], st: &St, descent: &Descent)
+fn link_next(book: &mut [u32], st: &State, descent: &Descent)
     ensures { book.new ≡ linked book.old st.now descent.now }
 {
-    if 0 < st[ROOT] {
-        if may_link(st[ENTRIES], book.len() / ENTRY) {
-            link(book, descent, st[ENTRIES]);
+    if 0 < st.root {
+        if may_link(st.entries, book.len() / ENTRY) {
+            link(book, descent, st.entries);
         }
     }
 }
@@ -383,8 +406,8 @@ impl CodeGen<'_> {
         ensures same { SameLoans self.old self.new }
         ensures value { mem_of self.new ≡ begin_line (mem_of self.old) line }
     {
-        self.st[LINE] = line as usize;
-        self.st[FIRST] = 0;
+        self.st.line = line as usize;
+        self.st.first = 0;
     }
 
     // A record: its call, the current line, its range, three arguments.
@@ -393,8 +416,8 @@ impl CodeGen<'_> {
         ensures same { SameLoans self.old self.new }
         ensures value { mem_of self.new ≡ put (mem_of self.old) call r a b c }
     {
-        let n = self.st[RECORDS];
-        let h = word_of(call, low_bits(self.st[LINE]));
+        let n = self.st.records;
+        let h = word_of(call, low_bits(self.st.line));
         let w = range_word(r);
         if n < most_records(self.list.len()) {
             let i = RECORD * n;
@@ -403,9 +426,9 @@ impl CodeGen<'_> {
             self.list[i + A] = a;
             self.list[i + B] = b;
             self.list[i + C] = c;
-            self.st[RECORDS] = n + 1;
+            self.st.records = n + 1;
         } else {
-            self.st[LIST_FULL] = 1;
+            self.st.list_full = true;
         }
     }
 
@@ -425,12 +448,12 @@ impl CodeGen<'_> {
         ensures same { SameLoans self.old self.new }
         ensures value { mem_of self.new ≡ put_note (mem_of self.old) (word_of (class_number class) line) w (severity_of class) }
     {
-        let n = self.st[NOTES];
+        let n = self.st.notes;
         let h = word_of(class.number(), line);
         if put_four(self.notes, n, h, w, class.severity(), 0) {
-            self.st[NOTES] = n + 1;
+            self.st.notes = n + 1;
         } else {
-            self.st[NOTES_FULL] = 1;
+            self.st.notes_full = true;
         }
     }
 
@@ -439,7 +462,7 @@ impl CodeGen<'_> {
         ensures same { SameLoans self.old self.new }
         ensures value { mem_of self.new ≡ note (mem_of self.old) (class_number class) r (severity_of class) }
     {
-        let line = low_bits(self.st[LINE]);
+        let line = low_bits(self.st.line);
         self.put_note(class, line, range_word(r))
     }
 
@@ -456,11 +479,11 @@ impl CodeGen<'_> {
         ensures same { SameLoans self.old self.new }
         ensures value { mem_of self.new ≡ put_entry (mem_of self.old) h x y z }
     {
-        let n = self.st[ENTRIES];
+        let n = self.st.entries;
         if put_four(self.book, n, h, x, y, z) {
-            self.st[ENTRIES] = n + 1;
+            self.st.entries = n + 1;
         } else {
-            self.st[BOOK_FULL] = 1;
+            self.st.book_full = true;
         }
     }
 
@@ -468,7 +491,7 @@ impl CodeGen<'_> {
     pub fn known(&self) -> usize
         ensures { result ≡ known self.now.book.now self.now.st }
     {
-        self.st[ENTRIES].min(self.book.len() / ENTRY)
+        self.st.entries.min(self.book.len() / ENTRY)
     }
 
     // The number within its kind of an entry that the book has.
@@ -505,7 +528,7 @@ impl CodeGen<'_> {
         ensures { (result.descent ≡ descent_to text.now self.now.book.now self.now.st name.now.start name.now.len name.now.sigil) × (result.named ≡ named_at text.now self.now.book.now result.descent.at name.now.start name.now.len name.now.sigil) × (result.tag ≡ name_tag text.now name.now.start name.now.len name.now.sigil) }
     {
         let end = self.known();
-        let mut at = self.st[ROOT].saturating_sub(1);
+        let mut at = self.st.root.saturating_sub(1);
         let hash = name_hash(&*text, name);
         let tag = tag_of(hash);
         let mut bits = hash;
@@ -542,7 +565,7 @@ impl CodeGen<'_> {
         ensures { result ≡ pick (both (ltb 0 (root_in self.now.st)) (both (ltb at (known self.now.book.now self.now.st)) named)) at (lookup text.now self.now.book.now name.now.start name.now.len name.now.sigil (min (known self.now.book.now self.now.st) 32768) (known self.now.book.now self.now.st - 32768)) }
     {
         let end = self.known();
-        if is_reached(self.st[ROOT], end, at, named) {
+        if is_reached(self.st.root, end, at, named) {
             return at;
         }
         self.find(&*text, name, end.min(32768))
@@ -574,17 +597,17 @@ impl CodeGen<'_> {
     {
         let room = self.book.len() / ENTRY;
         link_next(self.book, &self.st, descent);
-        let number = low_bits(self.st[NAMES]);
-        let names = one_more(self.st[NAMES], room);
-        let root = root_of(self.st[ROOT], self.st[ENTRIES], room);
+        let number = low_bits(self.st.names);
+        let names = one_more(self.st.names, room);
+        let root = root_of(self.st.root, self.st.entries, room);
         self.put_entry(
             word_of(tag, number),
             name.start,
             name.len,
             sigil_code(name.sigil),
         );
-        self.st[NAMES] = names;
-        self.st[ROOT] = root;
+        self.st.names = names;
+        self.st.root = root;
         number
     }
 
@@ -609,12 +632,12 @@ impl CodeGen<'_> {
         ensures same { SameLoans self.old self.new }
         ensures value { mem_of self.new ≡ emit_datum (mem_of self.old) start len quoted }
     {
-        let number = low_bits(self.st[DATUMS]);
-        let datums = one_more(self.st[DATUMS], self.book.len() / ENTRY);
-        let first = first_of(self.st[FIRST], self.st[DATUMS]);
+        let number = low_bits(self.st.datums);
+        let datums = one_more(self.st.datums, self.book.len() / ENTRY);
+        let first = first_of(self.st.first, self.st.datums);
         self.put_entry(word_of(51, number), start, len, quoted);
-        self.st[DATUMS] = datums;
-        self.st[FIRST] = first;
+        self.st.datums = datums;
+        self.st.first = first;
     }
 
     // A byte of a LOAD: its literal and its value.
@@ -623,30 +646,30 @@ impl CodeGen<'_> {
         ensures same { SameLoans self.old self.new }
         ensures value { mem_of self.new ≡ load_byte (mem_of self.old) start len value }
     {
-        let number = low_bits(self.st[BYTES]);
-        let bytes = one_more(self.st[BYTES], self.book.len() / ENTRY);
+        let number = low_bits(self.st.bytes);
+        let bytes = one_more(self.st.bytes, self.book.len() / ENTRY);
         self.put_entry(word_of(52, number), start, len, value);
-        self.st[BYTES] = bytes;
+        self.st.bytes = bytes;
     }
 
     // The number that the next byte gets.
     pub fn next_byte(&self) -> u32
         ensures { result ≡ next_byte (mem_of self.now) }
     {
-        low_bits(self.st[BYTES])
+        low_bits(self.st.bytes)
     }
 
     // The current line's first datum plus 1, 0 while it has none.
     pub fn first_datum(&self) -> u32
         ensures { result ≡ first_datum (mem_of self.now) }
     {
-        (self.st[FIRST] % 4294967296) as u32
+        (self.st.first % 4294967296) as u32
     }
 
     pub fn current_addr(&self) -> Addr
         ensures { result.0 ≡ current_addr (mem_of self.now) }
     {
-        Addr((self.st[RECORDS] % 4294967296) as u32)
+        Addr((self.st.records % 4294967296) as u32)
     }
 
     // A word of the record at an address, which becomes known.
@@ -656,7 +679,7 @@ impl CodeGen<'_> {
         ensures value { mem_of self.new ≡ patched (λ p. set p i target.0) (mem_of self.old) at.0 }
     {
         let k = at.0 as usize;
-        if k < self.st[RECORDS] {
+        if k < self.st.records {
             if k < self.list.len() / RECORD {
                 let from = RECORD * k;
                 set_at(&mut self.list[from..], i, target.0);
@@ -686,7 +709,7 @@ impl CodeGen<'_> {
         ensures value { mem_of self.new ≡ patched (settle_args v) (mem_of self.old) k }
     {
         let i = k as usize;
-        if i < self.st[RECORDS] {
+        if i < self.st.records {
             if i < self.list.len() / RECORD {
                 let from = RECORD * i;
                 settle_args(&mut self.list[from..], v);
@@ -717,7 +740,7 @@ impl CodeGen<'_> {
         ensures value { mem_of self.new ≡ patched clear_args (mem_of self.old) at.0 }
     {
         let i = at.0 as usize;
-        if i < self.st[RECORDS] {
+        if i < self.st.records {
             if i < self.list.len() / RECORD {
                 let from = RECORD * i;
                 clear_args(&mut self.list[from..]);

@@ -5,4 +5,5 @@
 pub mod call;
 pub mod codegen;
 pub mod label;
+pub mod unit;
 pub mod word;

@@ -28,7 +28,8 @@ pub fn word_of(kind: u8, n: u32) -> u32
     (kind as u32) * 16777216 + n % 16777216
 }
 
-// The word at a place, 0 behind the end.
+// The word at a place, 0 behind the end. Words and units have a function each: a contract over any type with a default knows that
+// default only by what holds of it.
 pub fn word_at(s: &[u32], at: usize) -> u32
     ensures { result ≡ get_or s.now at 0 }
 {
@@ -47,9 +48,9 @@ pub fn payload_at(s: &[u32], at: usize) -> u32
     payload_of(word_at(s, at))
 }
 
-// The place behind a word; the end stays.
+// The place behind a word or a unit; the end stays.
 #[tactic(auto, unfolding(crate::specs::Word::next))]
-pub fn behind(s: &[u32], at: usize) -> usize
+pub fn behind<T>(s: &[T], at: usize) -> usize
     ensures { result ≡ next s.now at }
 {
     if at < s.len() { at + 1 } else { at }
@@ -60,14 +61,6 @@ pub fn unit_at(t: &[u16], at: usize) -> u16
     ensures { result ≡ get_or t.now at 0 }
 {
     if at < t.len() { t[at] } else { 0 }
-}
-
-// The place behind a unit; the end stays.
-#[tactic(auto, unfolding(crate::specs::Word::next))]
-pub fn behind_unit(t: &[u16], at: usize) -> usize
-    ensures { result ≡ next t.now at }
-{
-    if at < t.len() { at + 1 } else { at }
 }
 
 pub fn range_of(w: u32) -> Range

@@ -3,6 +3,7 @@ ghost use Rattle.std.specs.Prelude.{◌≡◌, ◌-◌};
 ghost use Rattle.rules.specs.Name.{text_place, ends_name, name_length, sigil_count, read_name};
 
 use crate::types::Type;
+use recorder::unit::{BLANK, DOLLAR, PERCENT};
 use recorder::word::Range;
 
 // Where a name starts in the text, how many units it has before a blank or its sigil, the sigil's unit or 0, its kind,
@@ -34,7 +35,7 @@ pub fn units(r: Range) -> u32
 fn ends_name(u: u16) -> bool
     ensures { result ≡ ends_name u }
 {
-    matches!(u, 32 | 36 | 37)
+    matches!(u, BLANK | DOLLAR | PERCENT)
 }
 
 // Of the n units from a place, those before the first blank or sigil; behind the text there is neither.

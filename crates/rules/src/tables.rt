@@ -1,8 +1,33 @@
 // What the statements and functions want: the tables of compile_stmt and compile_sys_func_call of compiler.rs.
-ghost use Rattle.std.specs.Prelude.{◌≡◌, length};
-ghost use Rattle.rules.specs.Tables.{signature_for, signature_of, wanted, draw_arity, operand, wanted_by};
+ghost use Rattle.std.specs.Prelude.{◌≡◌, length, map};
+ghost use Rattle.rules.specs.Tables.{signatures, signature_for, signature_of, wanted, draw_arity, operand, wanted_by};
 
 use crate::types::Type;
+
+// Places in StmtKind: the drawing statements, and those whose operands are no numbers.
+const BOX: u32 = 2;
+
+const CIRCLE: u32 = 4;
+
+const DRAW: u32 = 14;
+
+const ELLIPSE: u32 = 16;
+
+const LINE: u32 = 32;
+
+const PLAY: u32 = 44;
+
+const FPUTC: u32 = 66;
+
+const DEBUG_PRINT: u32 = 70;
+
+// Places in SysFuncKind.
+pub const TAB: u32 = 27;
+
+pub const SPC: u32 = 28;
+
+// A place in BinaryOpKind: Eq, Ne, Gt, Lt, Ge and Le come before Add, the operators of numbers alone behind it.
+pub const ADD: u32 = 6;
 
 // The signatures that functions have.
 #[derive(Clone, Copy)]
@@ -30,22 +55,65 @@ pub enum Wants {
     Draw(u32),
 }
 
+// By the place in SysFuncKind, eight on a line.
+const SIGS: &[Sig] = &[
+    // Abs, Asc, Atn, Chr, Cos, Cvi, Cvs, Eof
+    Sig::RealOfReal,
+    Sig::RealOfText,
+    Sig::RealOfReal,
+    Sig::TextOfReal,
+    Sig::RealOfReal,
+    Sig::RealOfText,
+    Sig::RealOfText,
+    Sig::RealOfReal,
+    // Exp, Int, Left, Len, Lof, Log, Mid, Mki
+    Sig::RealOfReal,
+    Sig::RealOfReal,
+    Sig::TextPart,
+    Sig::RealOfText,
+    Sig::RealOfReal,
+    Sig::RealOfReal,
+    Sig::Mid,
+    Sig::TextOfReal,
+    // Mks, Peek, Pos, Right, Rnd, Sgn, Sin, Sqr
+    Sig::TextOfReal,
+    Sig::RealOfReal,
+    Sig::RealOfReal,
+    Sig::TextPart,
+    Sig::RealOfReal,
+    Sig::RealOfReal,
+    Sig::RealOfReal,
+    Sig::RealOfReal,
+    // Str, Tan, Val, Tab, Spc, Point, CheckKey, Fopen
+    Sig::TextOfReal,
+    Sig::RealOfReal,
+    Sig::RealOfText,
+    Sig::RealOfReal,
+    Sig::RealOfReal,
+    Sig::Point,
+    Sig::RealOfReal,
+    Sig::RealOfReal,
+    // Fgetc, Ftell
+    Sig::RealOfReal,
+    Sig::RealOfReal,
+];
+
+fn sigs() -> &'static [Sig]
+    ensures { map signature_for result.now ≡ signatures }
+{
+    SIGS
+}
+
 impl Sig {
     // A function's signature, by its place in SysFuncKind.
-    #[tactic(auto, using(crate::proofs::TableLaws::sig_other), unfolding(crate::specs::Tables::signature_of))]
+    #[tactic(auto, unfolding(crate::specs::Tables::signature_of))]
     pub fn of_function(k: u32) -> Sig
         ensures { signature_for result ≡ signature_of k }
     {
-        match k {
-            1 | 5 | 6 | 11 | 26 => Sig::RealOfText,
-            3 | 15 | 16 | 24 => Sig::TextOfReal,
-            10 | 19 => Sig::TextPart,
-            14 => Sig::Mid,
-            29 => Sig::Point,
-            _ => Sig::RealOfReal,
-        }
+        sigs().get(k as usize).copied().unwrap_or(Sig::RealOfReal)
     }
 
+    // What each of the six signatures is, in three matches; as structs they would be six constants of three fields.
     // How many arguments a function wants at least, and at most.
     pub fn min_args(self) -> u32
         ensures { result ≡ (signature_for self).min }
@@ -94,22 +162,22 @@ pub fn draw_arity(k: u32) -> Arity
     ensures { result ≡ draw_arity k }
 {
     let (min, max) = match k {
-        2 | 16 => (4, 6),
-        4 => (3, 5),
-        14 => (2, 3),
-        32 => (4, 5),
+        BOX | ELLIPSE => (4, 6),
+        CIRCLE => (3, 5),
+        DRAW => (2, 3),
+        LINE => (4, 5),
         _ => (5, 6),
     };
     Arity { min, max }
 }
 
-// The kind of the i-th operand of a statement of one, two or three.
+// The kind of the i-th operand of a statement of one, two or three: a text in three of them, where a table would have 72 rows.
 #[tactic(auto, unfolding(crate::specs::Tables::operand))]
 pub fn operand_type(k: u32, i: u32) -> Type
     ensures { result ≡ operand k i }
 {
     match (k, i) {
-        (44 | 70, _) | (66, 1) => Type::String,
+        (PLAY | DEBUG_PRINT, _) | (FPUTC, 1) => Type::String,
         _ => Type::Real,
     }
 }

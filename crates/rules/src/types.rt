@@ -2,6 +2,8 @@
 ghost use Rattle.std.specs.Prelude.{◌≡◌};
 ghost use Rattle.rules.specs.Types.{matches_type, exact_matches, sigil_unit, rvalue_type, sigil_type};
 
+use recorder::unit::{DOLLAR, PERCENT};
+
 #[derive(Clone, Copy, PartialEq, Eq)]
 pub enum Type {
     Integer,
@@ -11,13 +13,13 @@ pub enum Type {
 }
 
 impl Type {
-    // The kind of a name by its last unit.
+    // The kind of a name by its last unit; a From of a unit would not say which.
     pub fn of_last_unit(last: u16) -> Type
         ensures { result ≡ sigil_type last }
     {
         match last {
-            37 => Type::Integer,
-            36 => Type::String,
+            PERCENT => Type::Integer,
+            DOLLAR => Type::String,
             _ => Type::Real,
         }
     }
@@ -46,8 +48,8 @@ impl Type {
         ensures { result ≡ sigil_unit self }
     {
         match self {
-            Type::Integer => 37,
-            Type::String => 36,
+            Type::Integer => PERCENT as u32,
+            Type::String => DOLLAR as u32,
             Type::Real | Type::Error => 0,
         }
     }

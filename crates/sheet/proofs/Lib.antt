@@ -1,3 +1,4 @@
 pub mod Walks
 pub mod Shapes
 pub mod Numbers
+pub mod Cases

@@ -1,5 +1,5 @@
 -- Numbers that are never 0: the kinds of words, and the refusals, of which the form decides those up to 8.
-use Rattle.std.proofs.Common.{◌≡◌, ℕ, List, Bool, true, false, ◌<◌, ◌≤◌, length, arith}
+use Rattle.std.proofs.Common.{ℕ, List, Bool, true, false, ◌<◌, ◌≤◌, length, arith}
 use lib.Dec.{ltb}
 use Rattle.std.specs.Prelude.{Ok, Err}
 use Rattle.recorder.specs.Word.{pick}

@@ -5,6 +5,12 @@ use Rattle.sheet.specs.declared.form.Kind.{Kind}
 use Rattle.sheet.specs.declared.form.Kind.TheVariants.{Range as RangeWord, Absent as AbsentWord, Label as LabelWord, Count as CountWord, Flag as FlagWord, Mode as ModeWord, Source as SourceWord, Element as ElementWord, Place as PlaceWord, Exponent as ExponentWord, Mantissa as MantissaWord, Program as ProgramWord, Line as LineWord, Stmt as StmtWord, Expr as ExprWord}
 use Rattle.sheet.specs.declared.form.Item.{Item}
 use Rattle.sheet.specs.declared.form.Item.TheVariants.{Nothing, Word, Range as range, Name as name, OptionalName as optionalName, Text as text, Node, Number as number, OptionalLabel as optionalLabel, Source as source, Element as element, Datum as datum}
+use Rattle.sheet.specs.declared.form.ExprKind.{ExprKind}
+use Rattle.sheet.specs.declared.form.ExprKind.TheVariants.{Ident, StringLit, NumberLit, SysFuncCall, UserFuncCall, Binary, Unary, Index, Inkey, Error}
+use Rattle.sheet.specs.declared.form.SourceKind.{SourceKind}
+use Rattle.sheet.specs.declared.form.SourceKind.TheVariants.{Keyboard, KeyboardWithPrompt, File}
+use Rattle.sheet.specs.declared.form.ElementKind.{ElementKind}
+use Rattle.sheet.specs.declared.form.ElementKind.TheVariants.{Expr as Value, Comma, Semicolon}
 use Rattle.sheet.specs.declared.form.Sort.{Sort}
 use Rattle.sheet.specs.declared.form.Sort.TheVariants.{Expr, Place, InputPlace, Stmt}
 use Rattle.sheet.specs.declared.form.Times.TheVariants.{Once, Optional, List as Listed, NonEmpty, OptionalList}
@@ -102,6 +108,20 @@ expr_table =
     ∷ []  -- 8 Inkey
     ∷ []  -- 9 Error
     ∷ []
+
+-- the cases of ExprKind by their numbers; what is no case reads as Error
+abbrev pub expr_kinds : List ExprKind
+expr_kinds = Ident ∷ StringLit ∷ NumberLit ∷ SysFuncCall ∷ UserFuncCall ∷ Binary ∷ Unary ∷ Index ∷ Inkey ∷ Error ∷ []
+
+unfoldable pub expr_kind : ℕ → ExprKind
+expr_kind k = get_or expr_kinds k Error
+
+-- INPUT's sources and PRINT's elements by their numbers; every larger number reads as the last
+unfoldable pub source_kind : ℕ → SourceKind
+source_kind k = get_or (Keyboard ∷ KeyboardWithPrompt ∷ []) k File
+
+unfoldable pub element_kind : ℕ → ElementKind
+element_kind k = get_or (Value ∷ Comma ∷ []) k Semicolon
 
 -- StmtKind
 abbrev pub stmt_table : List (List Field)

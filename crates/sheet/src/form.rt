@@ -1,7 +1,7 @@
 // The form of the sheet: what may stand at a place of it, and what reading there finds.
 ghost use Rattle.std.specs.Prelude.{◌≡◌};
 ghost use Rattle.sheet.specs.declared.form.Refusal.TheVariants.{Offends};
-ghost use Rattle.sheet.specs.Table.{kind_number, node_kind, may_stand, own_range, is_fseek, expr_fields, shape_fields};
+ghost use Rattle.sheet.specs.Table.{kind_number, node_kind, may_stand, own_range, is_fseek, expr_kind, source_kind, element_kind, expr_fields, shape_fields};
 ghost use Rattle.sheet.specs.Check.{offence_number, offence_place, refusal_number, refusal_place};
 
 // The kinds of the sheet's words, by document 01's numbers. A place is one in SysFuncKind, BinaryOpKind or UnaryOpKind; the value of
@@ -23,6 +23,37 @@ pub enum Kind {
     Line = 16,
     Stmt = 32,
     Expr = 33,
+}
+
+// The cases of an expression, in the order of their numbers.
+#[derive(Clone, Copy, PartialEq, Eq)]
+pub enum ExprKind {
+    Ident,
+    StringLit,
+    NumberLit,
+    SysFuncCall,
+    UserFuncCall,
+    Binary,
+    Unary,
+    Index,
+    Inkey,
+    Error,
+}
+
+// What INPUT reads from, in the order of their numbers.
+#[derive(Clone, Copy, PartialEq, Eq)]
+pub enum SourceKind {
+    Keyboard,
+    KeyboardWithPrompt,
+    File,
+}
+
+// What stands in a PRINT, in the order of their numbers.
+#[derive(Clone, Copy, PartialEq, Eq)]
+pub enum ElementKind {
+    Expr,
+    Comma,
+    Semicolon,
 }
 
 // Which statements or expressions may stand at a place.
@@ -290,19 +321,71 @@ const VALUES: Field = Field {
     second: Item::Word(Kind::Flag, 2),
 };
 
-// The fields of a case of ExprKind, by its place there.
-#[tactic(auto, unfolding(crate::specs::Table::expr_fields))]
+impl ExprKind {
+    // The case of a number; what is no case is Error.
+    #[inline(always)]
+    #[tactic(auto, unfolding(crate::specs::Table::expr_kind))]
+    pub fn of(k: u32) -> ExprKind
+        ensures { result ≡ expr_kind k }
+    {
+        match k {
+            0 => ExprKind::Ident,
+            1 => ExprKind::StringLit,
+            2 => ExprKind::NumberLit,
+            3 => ExprKind::SysFuncCall,
+            4 => ExprKind::UserFuncCall,
+            5 => ExprKind::Binary,
+            6 => ExprKind::Unary,
+            7 => ExprKind::Index,
+            8 => ExprKind::Inkey,
+            _ => ExprKind::Error,
+        }
+    }
+}
+
+impl SourceKind {
+    // The source of a number; every larger one is File.
+    #[inline(always)]
+    #[tactic(auto, unfolding(crate::specs::Table::source_kind))]
+    pub fn of(k: u32) -> SourceKind
+        ensures { result ≡ source_kind k }
+    {
+        match k {
+            0 => SourceKind::Keyboard,
+            1 => SourceKind::KeyboardWithPrompt,
+            _ => SourceKind::File,
+        }
+    }
+}
+
+impl ElementKind {
+    // The element of a number; every larger one is Semicolon.
+    #[inline(always)]
+    #[tactic(auto, unfolding(crate::specs::Table::element_kind))]
+    pub fn of(k: u32) -> ElementKind
+        ensures { result ≡ element_kind k }
+    {
+        match k {
+            0 => ElementKind::Expr,
+            1 => ElementKind::Comma,
+            _ => ElementKind::Semicolon,
+        }
+    }
+}
+
+// The fields of a case of ExprKind, by its number.
+#[tactic(auto, using(crate::proofs::Cases::fields_rule))]
 pub fn expr_fields(k: u32) -> &'static [Field]
     ensures { result.now ≡ expr_fields k }
 {
-    match k {
-        2 => &[NUMBER],
-        3 => &[RANGE, SYS_FUNC, EXPRS],
-        4 => &[NAME, EXPR],
-        5 => &[EXPR, RANGE, BINARY_OP, EXPR],
-        6 => &[RANGE, UNARY_OP, EXPR],
-        7 => &[NAME, EXPRS],
-        _ => &[],
+    match ExprKind::of(k) {
+        ExprKind::NumberLit => &[NUMBER],
+        ExprKind::SysFuncCall => &[RANGE, SYS_FUNC, EXPRS],
+        ExprKind::UserFuncCall => &[NAME, EXPR],
+        ExprKind::Binary => &[EXPR, RANGE, BINARY_OP, EXPR],
+        ExprKind::Unary => &[RANGE, UNARY_OP, EXPR],
+        ExprKind::Index => &[NAME, EXPRS],
+        ExprKind::Ident | ExprKind::StringLit | ExprKind::Inkey | ExprKind::Error => &[],
     }
 }
 
@@ -348,25 +431,39 @@ pub fn node_kind(c: Sort) -> Kind
 }
 
 // Which cases may stand at a place.
+#[tactic(auto, using(crate::proofs::Cases::place_rule, crate::proofs::Cases::input_rule))]
 pub fn may_stand(c: Sort, k: u32) -> bool
     ensures { result ≡ may_stand c k }
 {
     match c {
         Sort::Expr => k < 10,
-        Sort::Place => matches!(k, 0 | 7 | 9),
-        Sort::InputPlace => matches!(k, 0 | 4 | 7 | 9),
+        Sort::Place => {
+            k < 10
+                && matches!(
+                    ExprKind::of(k),
+                    ExprKind::Ident | ExprKind::Index | ExprKind::Error
+                )
+        }
+        Sort::InputPlace => {
+            k < 10
+                && matches!(
+                    ExprKind::of(k),
+                    ExprKind::Ident | ExprKind::UserFuncCall | ExprKind::Index | ExprKind::Error
+                )
+        }
         Sort::Stmt => k < 72,
     }
 }
 
 // What a node's own range is.
+#[tactic(auto, using(crate::proofs::Cases::range_rule))]
 pub fn own_range(c: Sort, k: u32) -> Item
     ensures { result ≡ own_range c k }
 {
-    match (c, k) {
+    match (c, ExprKind::of(k)) {
         (Sort::Stmt, _) => Item::Range,
-        (_, 0) => Item::Name,
-        (_, 1) => Item::Text,
+        (_, ExprKind::Ident) => Item::Name,
+        (_, ExprKind::StringLit) => Item::Text,
         _ => Item::Range,
     }
 }

@@ -6,32 +6,33 @@ ghost use Rattle.sheet.specs.Table.{kind_number};
 ghost use Rattle.sheet.specs.Form.{is_letter, is_alnum, is_inner, is_last, name_tail, is_name, is_absent, has_unit, in_line, take_word, absent_form, non_empty_form, half_form, number_form, head_form, range_form, text_form, name_form, datum_form, label_form, high_fits, low_fits, lacks_unit};
 
 use crate::form::{Kind, Line, Offence, Sort, Walk};
-use recorder::word::{Range, behind, behind_unit, kind_at, payload_at, range_at, unit_at};
+use recorder::unit::{BLANK, DOLLAR, LOWER_A, LOWER_Z, NINE, PERCENT, UPPER_A, UPPER_Z, ZERO};
+use recorder::word::{Range, behind, kind_at, payload_at, range_at, unit_at};
 
 fn is_letter(u: u16) -> bool
     ensures { result ≡ is_letter u }
 {
-    matches!(u, 65..=90 | 97..=122)
+    matches!(u, UPPER_A..=UPPER_Z | LOWER_A..=LOWER_Z)
 }
 
 fn is_alnum(u: u16) -> bool
     ensures { result ≡ is_alnum u }
 {
-    is_letter(u) || matches!(u, 48..=57)
+    is_letter(u) || matches!(u, ZERO..=NINE)
 }
 
 // A unit within a name: a letter, a digit or a blank.
 fn is_inner(u: u16) -> bool
     ensures { result ≡ is_inner u }
 {
-    is_alnum(u) || u == 32
+    is_alnum(u) || u == BLANK
 }
 
 // A name's last unit behind its first: a letter, a digit or a sigil.
 fn is_last(u: u16) -> bool
     ensures { result ≡ is_last u }
 {
-    is_alnum(u) || u == 37 || u == 36
+    is_alnum(u) || u == PERCENT || u == DOLLAR
 }
 
 // The n units from a place, behind a name's first.
@@ -44,7 +45,7 @@ fn name_tail(text: &[u16], at: usize, n: usize) -> bool
         if !is_inner(unit_at(text, p)) {
             return false;
         }
-        p = behind_unit(text, p);
+        p = behind(text, p);
     }
     n == 0 || is_last(unit_at(text, p))
 }
@@ -53,7 +54,7 @@ fn name_tail(text: &[u16], at: usize, n: usize) -> bool
 fn is_name(text: &[u16], at: usize, n: usize) -> bool
     ensures { result ≡ is_name text.now at n }
 {
-    0 < n && is_letter(unit_at(text, at)) && name_tail(text, behind_unit(text, at), n - 1)
+    0 < n && is_letter(unit_at(text, at)) && name_tail(text, behind(text, at), n - 1)
 }
 
 // Whether a range of a line holds a name.

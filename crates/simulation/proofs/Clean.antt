@@ -14,7 +14,8 @@ use Rattle.recorder.specs.Closing.{is_while, is_wend, closes, opened, end_from, 
 use Rattle.recorder.specs.Mem.{Mem, mem, records_in, notes_in, entries_in, list_full, notes_full, book_full, as_word, put_rec, put_st, Passed, passed, whiles_from, top_from, present, patch_whiles, convert_delays}
 use Rattle.recorder.proofs.Words.{length_snoc, change_length}
 use Rattle.simulation.proofs.Hide.{hide_rec, hide, hide_false, all_fresh}
-use Rattle.simulation.proofs.Cells.{St, cells, flag_is, with_records, with_notes, put_form}
+use Rattle.recorder.specs.declared.codegen.State.{State}
+use Rattle.simulation.proofs.States.{with_records, with_notes, put_form}
 use Rattle.simulation.proofs.Sim.{Held, held_fits, held_count, Listed, listed_emit, Exact}
 use Rattle.simulation.proofs.Delays.{Holds, delays_hold}
 use Rattle.simulation.proofs.Whiles.{run_p, run_w, Below, below_length, notes_of, all_closed, all_noted}
@@ -55,12 +56,12 @@ unfolding linked
 none_linked size qs l h = record { holds = h; top_is = refl }
 
 -- patch_while_instr on words
-pub whiles_are : (size N : ℕ) (rs : List Rec) (is : List Note) (l n : List ℕ) (s : St) → Holds size rs l → all_fresh rs ≡ true → Exact note_words N is n s.notes s.nfull → present l (cells s) ≡ length rs
-    → Opened size N (close_whiles rs 0) (is ++ open_notes rs) s (patch_whiles l n (cells s))
+pub whiles_are : (size N : ℕ) (rs : List Rec) (is : List Note) (l n : List ℕ) (s : State) → Holds size rs l → all_fresh rs ≡ true → Exact note_words N is n s.notes s.notes_full → present l s ≡ length rs
+    → Opened size N (close_whiles rs 0) (is ++ open_notes rs) s (patch_whiles l n s)
 unfolding patch_whiles
 whiles_are size N rs is l n s h f x e = rw (e, ← all_closed rs, ← m)
-    (open_all size N (run_p [] [] 0 rs) (run_w [] 0 rs) is s (passed (whiles_from l 0 0 (length rs)) n (cells s)) (top_from l 0 0 (length rs)) (length rs) (length rs) w b
-    (omega (arith, ap length (all_closed rs), close_length rs 0)) (run_unknown rs [] [] 0 (none_unknown rs) refl (none_below 0) f) (record { many = s.notes; full = s.nfull; exact = x; rest = refl }) (below_length (run_w [] 0 rs) (length rs) b))
+    (open_all size N (run_p [] [] 0 rs) (run_w [] 0 rs) is s (passed (whiles_from l 0 0 (length rs)) n s) (top_from l 0 0 (length rs)) (length rs) (length rs) w b
+    (omega (arith, ap length (all_closed rs), close_length rs 0)) (run_unknown rs [] [] 0 (none_unknown rs) refl (none_below 0) f) (record { many = s.notes; full = s.notes_full; exact = x; rest = refl }) (below_length (run_w [] 0 rs) (length rs) b))
   where
     w : Linked size (run_p [] [] 0 rs) (run_w [] 0 rs) (whiles_from l 0 0 (length rs)) (top_from l 0 0 (length rs))
     w = run_words size rs [] [] 0 l 0 (none_linked size rs l h) refl (none_below 0)
@@ -146,8 +147,8 @@ pub record Done (L N B : ℕ) (i : Ideal) (m : Mem) : Type 0 where
 pub same_records : (b : Bool) (rs is : List Rec) → b ≡ false → hide b rs ≡ hide b is → rs ≡ is
 same_records b rs is f e = sym (hide_false rs) ∙ rw f at e ∙ hide_false is
 
-module _ (L N B : ℕ) (i : Ideal) (rs : List Rec) (s : St) (P : Passed) (O : Opened L N (close_whiles rs 0) (i.notes ++ open_notes i.records) s P)
-    (held : Held (most_records L) (length i.records) s.records s.lfull) (fit : s.lfull ≡ false) (room : s.records < most_records L)
+module _ (L N B : ℕ) (i : Ideal) (rs : List Rec) (s : State) (P : Passed) (O : Opened L N (close_whiles rs 0) (i.notes ++ open_notes i.records) s P)
+    (held : Held (most_records L) (length i.records) s.records s.list_full) (fit : s.list_full ≡ false) (room : s.records < most_records L)
     (many : length rs ≡ length i.records) (line : i.line ≡ s.line) where
   abbrev made : List Rec
   made = delays (length rs) 0 (close_whiles rs 0)
@@ -156,7 +157,7 @@ module _ (L N B : ℕ) (i : Ideal) (rs : List Rec) (s : St) (P : Passed) (O : Op
   made_length = delays_length (length rs) 0 (close_whiles rs 0) ∙ close_length rs 0 ∙ many
 
   -- the numbers, but for those of the notes, are as they were
-  abbrev now : St
+  abbrev now : State
   now = with_notes s O.noted.many O.noted.full
 
   present_is : present P.list P.st ≡ length rs
@@ -167,7 +168,7 @@ module _ (L N B : ℕ) (i : Ideal) (rs : List Rec) (s : St) (P : Passed) (O : Op
   converted = rw present_is (delays_hold (length rs) 0 O.holds)
 
   -- the list before End, and with it
-  before : Listed L made (convert_delays P.list P.st) s.records s.lfull s.bfull
+  before : Listed L made (convert_delays P.list P.st) s.records s.list_full s.book_full
   before = record {
     long = converted.long;
     held = rw made_length held;
@@ -177,29 +178,29 @@ module _ (L N B : ℕ) (i : Ideal) (rs : List Rec) (s : St) (P : Passed) (O : Op
   fits_in : ltb s.records (most_records (length (convert_delays P.list P.st))) ≡ true
   fits_in = lt-ltb s.records (most_records (length (convert_delays P.list P.st))) (omega (arith, converted.long))
 
-  after : Listed L (made ++ (end_rec s.line ∷ [])) (put_rec (convert_delays P.list P.st) (cells now) 2 no_range 17 0 0) (s.records + 1) s.lfull s.bfull
+  after : Listed L (made ++ (end_rec s.line ∷ [])) (put_rec (convert_delays P.list P.st) now 2 no_range 17 0 0) (s.records + 1) s.list_full s.book_full
   after = rw fits_in at (listed_emit L made (convert_delays P.list P.st) now (end_rec s.line) (end_rec s.line) before (λ f. refl))
 
-  pub clean_done : (b : List ℕ) → (s.bfull ≡ false → rs ≡ i.records) → Exact entry_words B i.entries b s.entries s.bfull
+  pub clean_done : (b : List ℕ) → (s.book_full ≡ false → rs ≡ i.records) → Exact entry_words B i.entries b s.entries s.book_full
       → Done L N B (clean_up i) (mem (put_rec (convert_delays P.list P.st) P.st 2 no_range 17 0 0) P.notes b (put_st (convert_delays P.list P.st) P.st))
   unfolding clean_up
   clean_done b same k =
-      let q : put_st (convert_delays P.list P.st) P.st ≡ cells (with_records now (s.records + 1) s.lfull) =
-      ap (λ (z : List ℕ). put_st (convert_delays P.list P.st) z) O.noted.rest ∙ rw fits_in at (put_form (convert_delays P.list P.st) now) in
-      let a : Listed L (made ++ (end_rec s.line ∷ [])) (put_rec (convert_delays P.list P.st) P.st 2 no_range 17 0 0) (s.records + 1) s.lfull s.bfull =
-      subst (λ (z : List ℕ). Listed L (made ++ (end_rec s.line ∷ [])) (put_rec (convert_delays P.list P.st) z 2 no_range 17 0 0) (s.records + 1) s.lfull s.bfull) (sym O.noted.rest) after in
+      let q : put_st (convert_delays P.list P.st) P.st ≡ with_records now (s.records + 1) s.list_full =
+      ap (λ (z : State). put_st (convert_delays P.list P.st) z) O.noted.rest ∙ rw fits_in at (put_form (convert_delays P.list P.st) now) in
+      let a : Listed L (made ++ (end_rec s.line ∷ [])) (put_rec (convert_delays P.list P.st) P.st 2 no_range 17 0 0) (s.records + 1) s.list_full s.book_full =
+      subst (λ (z : State). Listed L (made ++ (end_rec s.line ∷ [])) (put_rec (convert_delays P.list P.st) z 2 no_range 17 0 0) (s.records + 1) s.list_full s.book_full) (sym O.noted.rest) after in
       record {
         long = a.long;
         count = length_snoc (delays (length i.records) 0 (close_whiles i.records 0)) (end_rec i.line)
             ∙ rw q (omega (arith, delays_length (length i.records) 0 (close_whiles i.records 0), close_length i.records 0, held_count held fit));
-        fits = rw (q, flag_is s.lfull) fit;
-        list_is = rw (q, flag_is s.bfull) (λ f.
+        fits = rw q fit;
+        list_is = rw q (λ f.
             let e : rs ≡ i.records = same f in
             let w = a.same fit in
-            let u : w.rs ≡ made ++ (end_rec s.line ∷ []) = same_records s.bfull w.rs (made ++ (end_rec s.line ∷ [])) f w.hidden in
+            let u : w.rs ≡ made ++ (end_rec s.line ∷ []) = same_records s.book_full w.rs (made ++ (end_rec s.line ∷ [])) f w.hidden in
             w.words_are ∙ ap (λ (z : List Rec). fill L (words_of rec_words z)) u
             ∙ ap (λ (z : ℕ). fill L (words_of rec_words (made ++ (end_rec z ∷ [])))) (sym line)
             ∙ ap (λ (z : List Rec). fill L (words_of rec_words (delays (length z) 0 (close_whiles z 0) ++ (end_rec i.line ∷ [])))) e);
-        noted = rw (q, flag_is O.noted.full) O.noted.exact;
-        booked = rw (q, flag_is s.bfull) k;
+        noted = rw q O.noted.exact;
+        booked = rw q k;
       }

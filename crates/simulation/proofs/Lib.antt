@@ -1,5 +1,5 @@
 pub mod Hide
-pub mod Cells
+pub mod States
 pub mod Simulation
 pub mod Tree
 pub mod Book

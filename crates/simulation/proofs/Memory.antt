@@ -11,9 +11,9 @@ use Rattle.recorder.specs.Ideal.{rec, Ideal, ideal, how_many}
 use Rattle.recorder.specs.Layout.{fill, most_records}
 use Rattle.recorder.specs.Closing.{clean_up, close_whiles, open_notes, rules_r}
 use Rattle.recorder.specs.Mem.{Mem, mem, mem_r, list_full, book_full, nothing, low, present, patch_whiles, clean_up_all, unlinked}
-use Rattle.recorder.proofs.Laws.{note_same}
+use Rattle.recorder.proofs.Laws.{note_records, note_list_full}
 use Rattle.simulation.proofs.Hide.{hide_rec, hide_number, hide_numbers, all_fresh, all_hidden}
-use Rattle.simulation.proofs.Cells.{cells, line_stays, put_stays, note_stays, symbol_stays, datum_stays, byte_stays}
+use Rattle.simulation.proofs.States.{line_stays, put_stays, note_stays, symbol_stays, datum_stays, byte_stays}
 use Rattle.simulation.proofs.Simulation.{Simulation}
 use Rattle.simulation.proofs.Tree.{Tree}
 use Rattle.simulation.proofs.Book.{bares, all_small}
@@ -26,7 +26,7 @@ use Rattle.simulation.proofs.Clean.{Done, hide_notes, same_records, whiles_are, 
 pub sim_start : (t : List ℕ) (L N B : ℕ) → Sim t L N B (ideal [] [] [] 0 0) (mem (replicate L 0) (replicate N 0) (replicate B 0) nothing)
 unfolding all_small all_fresh how_many bares
 sim_start t L N B = record {
-  st = record { records = 0; notes = 0; entries = 0; names = 0; root = 0; datums = 0; bytes = 0; line = 0; first = 0; lfull = false; nfull = false; bfull = false };
+  st = record { records = 0; notes = 0; entries = 0; names = 0; root = 0; datums = 0; bytes = 0; line = 0; first = 0; list_full = false; notes_full = false; book_full = false };
   is = refl;
   listed = record { long = length-replicate L 0; held = none (most_records L); same = λ f. record { rs = []; words_are = empty L; hidden = refl } };
   noted = record { long = length-replicate N 0; held = none (N / 4); same = λ f. empty N };
@@ -66,20 +66,20 @@ module _ (L N B : ℕ) (t : List ℕ) where
   unfolding clean_up_all
   sim_clean i m s r =
       let u = s.st in
-      let z : u.lfull ≡ false = sym (list_full_lem s) ∙ r.0 in
+      let z : u.list_full ≡ false = sym (list_full_lem s) ∙ r.0 in
       let y : u.records < most_records L = rw s.is at r.1 in
       let q = s.listed.same z in
       let n = same_length q in
       let c = held_count s.listed.held z in
       let f = held_fits s.listed.held z in
       let h : Holds L q.rs m.list = record { words_are = q.words_are; long = s.listed.long; room = omega arith } in
-      let w : all_fresh q.rs ≡ true = sym (all_hidden u.bfull q.rs) ∙ ap all_fresh q.hidden ∙ all_hidden u.bfull i.records ∙ s.whole in
-      let p : present m.list (cells u) ≡ length q.rs = omega (arith, s.listed.long) in
-      let o : open_notes q.rs ≡ open_notes i.records = sym (hide_notes u.bfull q.rs) ∙ ap open_notes q.hidden ∙ hide_notes u.bfull i.records in
-      let O : Opened L N (close_whiles q.rs 0) (i.notes ++ open_notes i.records) u (patch_whiles m.list m.notes (cells u)) =
+      let w : all_fresh q.rs ≡ true = sym (all_hidden u.book_full q.rs) ∙ ap all_fresh q.hidden ∙ all_hidden u.book_full i.records ∙ s.whole in
+      let p : present m.list u ≡ length q.rs = omega (arith, s.listed.long) in
+      let o : open_notes q.rs ≡ open_notes i.records = sym (hide_notes u.book_full q.rs) ∙ ap open_notes q.hidden ∙ hide_notes u.book_full i.records in
+      let O : Opened L N (close_whiles q.rs 0) (i.notes ++ open_notes i.records) u (patch_whiles m.list m.notes u) =
       rw o at (whiles_are L N q.rs i.notes m.list m.notes u h w s.noted p) in
-      rw s.is (clean_done L N B i q.rs u (patch_whiles m.list m.notes (cells u)) O s.listed.held z y n s.line (unlinked m.book (cells u))
-      (λ e. same_records u.bfull q.rs i.records e q.hidden) (unlinked_exact t B i.entries m.book u s.booked))
+      rw s.is (clean_done L N B i q.rs u (patch_whiles m.list m.notes u) O s.listed.held z y n s.line (unlinked m.book u)
+      (λ e. same_records u.book_full q.rs i.records e q.hidden) (unlinked_exact t B i.entries m.book u s.booked))
 
   abbrev pub memory_simulates : Simulation (rules_r t) (mem_r t)
   memory_simulates = record {
@@ -102,10 +102,10 @@ module _ (L N B : ℕ) (t : List ℕ) where
     begin_line = (sim_line L N B t clean_up);
     begin_line_later = λ m l. line_stays m.st l;
     emit = λ i m k r a b c w s. (sim_emit L N B t clean_up) i m k r a a b b c w s (λ f. refl);
-    emit_number = λ i m k r a a' b c w n s q. (sim_emit L N B t clean_up) i m k r a a' b b c w s (λ f. sym (hide_number s.st.bfull k s.st.line r a a' b c n (λ e. q (book_full_lem s ∙ e))));
+    emit_number = λ i m k r a a' b c w n s q. (sim_emit L N B t clean_up) i m k r a a' b b c w s (λ f. sym (hide_number s.st.book_full k s.st.line r a a' b c n (λ e. q (book_full_lem s ∙ e))));
     emit_numbers = λ i m k r a a' b b' c w n n2 s q o. (sim_emit L N B t clean_up) i m k r a a' b b' c w s
-        (λ f. sym (hide_numbers s.st.bfull k s.st.line r a a' b b' c n n2 (λ e. q (book_full_lem s ∙ e)) (λ e. o (book_full_lem s ∙ e))));
-    emit_place = λ i m k r a a' b c w s q. (sim_emit L N B t clean_up) i m k r a a' b b c w s (λ f. ap (λ (z : ℕ). hide_rec s.st.bfull (rec k s.st.line r z b c)) (sym (q (list_full_lem s ∙ f))));
+        (λ f. sym (hide_numbers s.st.book_full k s.st.line r a a' b b' c n n2 (λ e. q (book_full_lem s ∙ e)) (λ e. o (book_full_lem s ∙ e))));
+    emit_place = λ i m k r a a' b c w s q. (sim_emit L N B t clean_up) i m k r a a' b b c w s (λ f. ap (λ (z : ℕ). hide_rec s.st.book_full (rec k s.st.line r z b c)) (sym (q (list_full_lem s ∙ f))));
     emit_later = λ m k r a b c. put_stays m.list m.st;
     count = λ i m s e. count_is s e;
     note = (sim_note L N B t clean_up);
@@ -126,18 +126,18 @@ module _ (L N B : ℕ) (t : List ℕ) where
     patch_later = λ m k v. (λ e. e, λ e. e);
     patch_end = λ i m k k' v v' s e d. (sim_patch_end L N B t clean_up) i m k k' v v' s (λ f. e (list_full_lem s ∙ f)) (λ f. d (list_full_lem s ∙ f));
     patch_end_later = λ m k v. (λ e. e, λ e. e);
-    look = λ i m k s f. listed_look L i.records m.list s.st.records s.st.lfull s.st.bfull k s.listed (sym (list_full_lem s) ∙ f);
+    look = λ i m k s f. listed_look L i.records m.list s.st.records s.st.list_full s.st.book_full k s.listed (sym (list_full_lem s) ∙ f);
     settle = λ i m k v v' u s d. (sim_settle L N B t clean_up) i m k v v' u s (λ f. d (list_full_lem s ∙ f));
     settle_number = λ i m k v v' u s d. (sim_settle_number L N B t clean_up) i m k v v' u s (λ f. d (book_full_lem s ∙ f));
     settle_later = λ m k v. (λ e. e, λ e. e);
     drop_label = (sim_drop_label L N B t clean_up);
     drop_label_later = λ m k. (λ e. e, λ e. e);
-    note_at_fits = λ m l k r v f. ap (λ (z : ℕ). ltb 0 z) (note_same m.notes m.st 9 (λ e. omega arith) (λ e. omega arith)) ∙ f;
+    note_at_fits = λ m l k r v f. note_list_full m.notes m.st ∙ f;
     settle_fits = λ m k v f. f;
     drop_label_fits = λ m k f. f;
     note_at_room = λ m l k r v f. (
-      ap (λ (z : ℕ). ltb 0 z) (note_same m.notes m.st 9 (λ e. omega arith) (λ e. omega arith)) ∙ f.0,
-      rw (note_same m.notes m.st 0 (λ e. omega arith) (λ e. omega arith)) f.1,
+      note_list_full m.notes m.st ∙ f.0,
+      rw (note_records m.notes m.st) f.1,
     );
     settle_room = λ m k v f. f;
     drop_label_room = λ m k f. f;

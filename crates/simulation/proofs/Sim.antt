@@ -17,7 +17,8 @@ use Rattle.recorder.specs.Mem.{Mem, mem, mem_r, records_in, line_in, first_in, l
 use Rattle.recorder.proofs.Words.{head_kind, length_snoc, put5, put4, words_snoc, length_words4, length_words, change_length, change_out, change_words, squash, rec_of_lem}
 use Rattle.recorder.proofs.Bools.{never}
 use Rattle.simulation.proofs.Hide.{fresh, hide_rec, hide, hide_length, hide_snoc, hide_true, hide_at, change_hidden, blind_same, blind_a, blind_c, blind_settled, blind_unlabelled, hide_number, hide_call, hide_line, hide_c, hide_b, fresh_rec, all_fresh, fresh_snoc, fresh_at, fresh_change}
-use Rattle.simulation.proofs.Cells.{St, cells, flag_is, with_entries, with_names, with_data, with_bytes, with_line, put_in, note_in, entry_in, put_form, note_form, entry_form, Stays}
+use Rattle.recorder.specs.declared.codegen.State.{State}
+use Rattle.simulation.proofs.States.{with_entries, with_names, with_data, with_bytes, with_line, put_in, note_in, entry_in, put_form, note_form, entry_form, Stays}
 use Rattle.simulation.proofs.Simulation.{Sigil, Looks, SameLine}
 use Rattle.simulation.proofs.Tree.{side, Tree, Linking, from_none, from_name, linking, link_code, tree_other, tree_name, linked_length, tag_high, seek_is}
 use Rattle.simulation.proofs.Book.{bare, bares, bares_length, bares_snoc, bare_name, bare_other, relink, put_entry, all_small, small_snoc, Finds, lookup_finds, unlink_all, unlink_length}
@@ -67,15 +68,15 @@ pub record Listed (size : ℕ) (is : List Rec) (l : List ℕ) (count : ℕ) (ful
   pub held : Held (most_records size) (length is) count full
   pub same : full ≡ false → Same size l b is
 
-pub listed_emit : (size : ℕ) (is : List Rec) (l : List ℕ) (st : St) (i j : Rec) → Listed size is l st.records st.lfull st.bfull
-    → (st.lfull ≡ false → hide_rec st.bfull j ≡ hide_rec st.bfull i)
-    → Listed size (is ++ (i ∷ [])) (put_list l (cells st) (word_of j.call j.line) (range_word j.range) j.a j.b j.c)
-    (pick (ltb st.records (most_records (length l))) (st.records + 1) st.records) (pick (ltb st.records (most_records (length l))) st.lfull true) st.bfull
+pub listed_emit : (size : ℕ) (is : List Rec) (l : List ℕ) (st : State) (i j : Rec) → Listed size is l st.records st.list_full st.book_full
+    → (st.list_full ≡ false → hide_rec st.book_full j ≡ hide_rec st.book_full i)
+    → Listed size (is ++ (i ∷ [])) (put_list l st (word_of j.call j.line) (range_word j.range) j.a j.b j.c)
+    (pick (ltb st.records (most_records (length l))) (st.records + 1) st.records) (pick (ltb st.records (most_records (length l))) st.list_full true) st.book_full
 unfolding put_list
 listed_emit size is l st i j s e = go (dec_lt (length is) (most_records size))
   where
-    go : Dec (length is < most_records size) → Listed size (is ++ (i ∷ [])) (put_list l (cells st) (word_of j.call j.line) (range_word j.range) j.a j.b j.c)
-        (pick (ltb st.records (most_records (length l))) (st.records + 1) st.records) (pick (ltb st.records (most_records (length l))) st.lfull true) st.bfull
+    go : Dec (length is < most_records size) → Listed size (is ++ (i ∷ [])) (put_list l st (word_of j.call j.line) (range_word j.range) j.a j.b j.c)
+        (pick (ltb st.records (most_records (length l))) (st.records + 1) st.records) (pick (ltb st.records (most_records (length l))) st.list_full true) st.book_full
     go (yes d) = rw (s.long, held_room s.held d) (record {
       long = simp length-set s.long;
       held = rw (length_snoc is i) (held_in s.held d);
@@ -86,7 +87,7 @@ listed_emit size is l st i j s e = go (dec_lt (length is) (most_records size))
             rs = q.rs ++ (j ∷ []);
             words_are = rw q.words_are (put5 size (5 * st.records) (word_of j.call j.line) (range_word j.range) j.a j.b j.c (words_of rec_words q.rs) w (omega (arith, held_count s.held f))
                 ∙ ap (λ (z : List ℕ). fill size z) (sym (words_snoc rec_words q.rs j)));
-            hidden = hide_snoc st.bfull q.rs j ∙ rw (q.hidden, e f) (sym (hide_snoc st.bfull is i));
+            hidden = hide_snoc st.book_full q.rs j ∙ rw (q.hidden, e f) (sym (hide_snoc st.book_full is i));
           };
     })
     go (no d) = rw (s.long, held_none s.held (omega arith)) (record {
@@ -108,7 +109,7 @@ at_long w h l k = go (ltb k (length l / 5))
     go true = part_long w h l (5 * k)
     go false = refl
 
-on_long : (w : List ℕ → List ℕ) → ((p : List ℕ) → length (w p) ≡ length p) → (l : List ℕ) (st : St) (k : ℕ) → length (on_rec w l (cells st) k) ≡ length l
+on_long : (w : List ℕ → List ℕ) → ((p : List ℕ) → length (w p) ≡ length p) → (l : List ℕ) (st : State) (k : ℕ) → length (on_rec w l st k) ≡ length l
 unfolding on_rec
 on_long w h l st k = go (ltb k st.records)
   where
@@ -127,8 +128,8 @@ at_words w g h size rs l k e n i j =
     (rw e (change_words w g h rs (replicate (size - length (words_of rec_words rs)) 0) k i ∙ rw a))
 
 on_words : (w : List ℕ → List ℕ) (g : Rec → Rec) → ((r : Rec) (ys : List ℕ) → w (rec_words r ++ ys) ≡ rec_words (g r) ++ ys)
-    → (size : ℕ) (is : List Rec) (l : List ℕ) (st : St) (k : ℕ) → Listed size is l st.records st.lfull st.bfull
-    → (q : Same size l st.bfull is) → st.lfull ≡ false → Dec (k < length is) → on_rec w l (cells st) k ≡ fill size (words_of rec_words (change g q.rs k))
+    → (size : ℕ) (is : List Rec) (l : List ℕ) (st : State) (k : ℕ) → Listed size is l st.records st.list_full st.book_full
+    → (q : Same size l st.book_full is) → st.list_full ≡ false → Dec (k < length is) → on_rec w l st k ≡ fill size (words_of rec_words (change g q.rs k))
 unfolding on_rec
 on_words w g h size is l st k s q f (yes i) =
     rw (lt-ltb k st.records (omega (arith, held_count s.held f)))
@@ -137,21 +138,21 @@ on_words w g h size is l st k s q f (no i) =
     rw (le-ltb k st.records (omega (arith, held_count s.held f)), change_out g q.rs k (omega (arith, same_length q))) q.words_are
 
 listed_change : (w : List ℕ → List ℕ) (f g : Rec → Rec) → ((r : Rec) (ys : List ℕ) → w (rec_words r ++ ys) ≡ rec_words (g r) ++ ys) → ((p : List ℕ) → length (w p) ≡ length p)
-    → (size : ℕ) (is : List Rec) (l : List ℕ) (st : St) (k k' : ℕ) → Listed size is l st.records st.lfull st.bfull
-    → (st.lfull ≡ false → k ≡ k')
-    → (st.lfull ≡ false → (r : Rec) → hide_rec st.bfull r ≡ hide_rec st.bfull (get_or is k no_rec) → hide_rec st.bfull (g r) ≡ hide_rec st.bfull (f (get_or is k no_rec)))
-    → Listed size (change f is k) (on_rec w l (cells st) k') st.records st.lfull st.bfull
+    → (size : ℕ) (is : List Rec) (l : List ℕ) (st : State) (k k' : ℕ) → Listed size is l st.records st.list_full st.book_full
+    → (st.list_full ≡ false → k ≡ k')
+    → (st.list_full ≡ false → (r : Rec) → hide_rec st.book_full r ≡ hide_rec st.book_full (get_or is k no_rec) → hide_rec st.book_full (g r) ≡ hide_rec st.book_full (f (get_or is k no_rec)))
+    → Listed size (change f is k) (on_rec w l st k') st.records st.list_full st.book_full
 listed_change w f g h n size is l st k k' s e m = record {
   long = on_long w n l st k' ∙ s.long;
   held = rw (change_length f is k) s.held;
   same = λ z.
       let q = s.same z in
-      let a : hide_rec st.bfull (get_or q.rs k no_rec) ≡ hide_rec st.bfull (get_or is k no_rec) =
-      sym (hide_at st.bfull q.rs k) ∙ ap (λ (y : List Rec). get_or y k no_rec) q.hidden ∙ hide_at st.bfull is k in
+      let a : hide_rec st.book_full (get_or q.rs k no_rec) ≡ hide_rec st.book_full (get_or is k no_rec) =
+      sym (hide_at st.book_full q.rs k) ∙ ap (λ (y : List Rec). get_or y k no_rec) q.hidden ∙ hide_at st.book_full is k in
       record {
         rs = change g q.rs k;
         words_are = rw (← e z) (on_words w g h size is l st k s q z (dec_lt k (length is)));
-        hidden = change_hidden st.bfull g f q.rs is k q.hidden (m z (get_or q.rs k no_rec) a);
+        hidden = change_hidden st.book_full g f q.rs is k q.hidden (m z (get_or q.rs k no_rec) a);
       };
 }
 
@@ -214,8 +215,8 @@ pick_sticky : (c full : Bool) → pick c full true ≡ false → (c ≡ true) ×
 pick_sticky true full e = (refl, e)
 pick_sticky false full e = never e
 
-entry_later : (b : List ℕ) (s : St) → (entry_in b s).bfull ≡ false → s.bfull ≡ false
-entry_later b s f = (pick_sticky (ltb s.entries (length b / 4)) s.bfull f).1
+entry_later : (b : List ℕ) (s : State) → (entry_in b s).book_full ≡ false → s.book_full ≡ false
+entry_later b s f = (pick_sticky (ltb s.entries (length b / 4)) s.book_full f).1
 
 -- the numbers within the kinds
 how_snoc : (k : ℕ) (es : List Entry) (e : Entry) → how_many k (es ++ (e ∷ [])) ≡ pick (eqb e.kind k) (suc (how_many k es)) (how_many k es)
@@ -282,7 +283,7 @@ one_counted is entries names datums bytes room e c r h = record {
     one : (k n : ℕ) → n ≡ how_many k is → n < room → pick (eqb e.kind k) (more n room) n ≡ pick (eqb e.kind k) (suc (how_many k is)) (how_many k is)
     one k n i j = rw (more_one n room j, i, add-one (how_many k is))
 
-entry_long : (b : List ℕ) (st : St) (h x y z : ℕ) → length (entry_list b (cells st) h x y z) ≡ length b
+entry_long : (b : List ℕ) (st : State) (h x y z : ℕ) → length (entry_list b st h x y z) ≡ length b
 unfolding entry_list
 entry_long b st h x y z = go (ltb st.entries (length b / 4))
   where
@@ -290,7 +291,7 @@ entry_long b st h x y z = go (ltb st.entries (length b / 4))
     go true = simp length-set
     go false = refl
 
-entry_put : (b : List ℕ) (st : St) (h x y z : ℕ) → st.entries < length b / 4 → entry_list b (cells st) h x y z ≡ four b st.entries h x y z
+entry_put : (b : List ℕ) (st : State) (h x y z : ℕ) → st.entries < length b / 4 → entry_list b st h x y z ≡ four b st.entries h x y z
 unfolding entry_list
 entry_put b st h x y z r = rw (lt-ltb st.entries (length b / 4) r)
 
@@ -309,11 +310,11 @@ pub record Puts (t : List ℕ) (size : ℕ) (is : List Entry) (b' : List ℕ) (n
   pub tree : Tree t (four b' n h x y z) (n + 1) root
 
 -- an entry of a kind whose count is n, v in its head
-module _ (t : List ℕ) (size : ℕ) (is : List Entry) (b b' : List ℕ) (st : St) (k v n x y z z' root : ℕ)
-    (s : Booked t size is b st.entries st.names st.datums st.bytes st.root st.bfull) (same : length b' ≡ length b)
+module _ (t : List ℕ) (size : ℕ) (is : List Entry) (b b' : List ℕ) (st : State) (k v n x y z z' root : ℕ)
+    (s : Booked t size is b st.entries st.names st.datums st.bytes st.root st.book_full) (same : length b' ≡ length b)
     (bared : bare (entry v (next_number k is) x y z) ≡ entry k (next_number k is) x y z') where
-  entry_written : st.bfull ≡ false → st.entries < length b / 4 → n ≡ how_many k is → Puts t size is b' st.entries (word_of v (next_number k is)) x y z root
-      → Written t size (added k is x y z') (entry_list b' (cells st) (word_of v (low n)) x y z) root
+  entry_written : st.book_full ≡ false → st.entries < length b / 4 → n ≡ how_many k is → Puts t size is b' st.entries (word_of v (next_number k is)) x y z root
+      → Written t size (added k is x y z') (entry_list b' st (word_of v (low n)) x y z) root
   entry_written f r c p =
       let l : length is ≡ st.entries = held_count s.held f in
       let m : length p.rs ≡ st.entries = sym (bares_length p.rs) ∙ ap length p.bare_are ∙ l in
@@ -326,31 +327,31 @@ module _ (t : List ℕ) (size : ℕ) (is : List Entry) (b b' : List ℕ) (st : S
         tree = rw u p.tree;
       })
 
-  booked_entry : (st.bfull ≡ false → n ≡ how_many k is) → (st.bfull ≡ false → st.entries < length b / 4 → Puts t size is b' st.entries (word_of v (next_number k is)) x y z root)
-      → Booked t size (added k is x y z') (entry_list b' (cells st) (word_of v (low n)) x y z)
+  booked_entry : (st.book_full ≡ false → n ≡ how_many k is) → (st.book_full ≡ false → st.entries < length b / 4 → Puts t size is b' st.entries (word_of v (next_number k is)) x y z root)
+      → Booked t size (added k is x y z') (entry_list b' st (word_of v (low n)) x y z)
       (pick (ltb st.entries (length b / 4)) (st.entries + 1) st.entries)
       (pick (eqb k 50) (more st.names (length b / 4)) st.names) (pick (eqb k 51) (more st.datums (length b / 4)) st.datums) (pick (eqb k 52) (more st.bytes (length b / 4)) st.bytes)
-      root (pick (ltb st.entries (length b / 4)) st.bfull true)
+      root (pick (ltb st.entries (length b / 4)) st.book_full true)
   booked_entry h p = record {
     long = entry_long b' st (word_of v (low n)) x y z ∙ same ∙ s.long;
-    held = rw (length_snoc is (entry k (next_number k is) x y z'), s.long) (held_put (size / 4) (length is) st.entries st.bfull s.held);
+    held = rw (length_snoc is (entry k (next_number k is) x y z'), s.long) (held_put (size / 4) (length is) st.entries st.book_full s.held);
     small = small_snoc is (entry k (next_number k is) x y z') s.small (small_number k is);
     written = λ f.
-        let q = pick_sticky (ltb st.entries (length b / 4)) st.bfull f in
+        let q = pick_sticky (ltb st.entries (length b / 4)) st.book_full f in
         let r = ltb-true st.entries (length b / 4) q.0 in
         entry_written q.1 r (h q.1) (p q.1 r);
     counted = λ f.
-        let q = pick_sticky (ltb st.entries (length b / 4)) st.bfull f in
+        let q = pick_sticky (ltb st.entries (length b / 4)) st.book_full f in
         one_counted is st.entries st.names st.datums st.bytes (length b / 4) (entry k (next_number k is) x y z') (s.counted q.1) (ltb-true st.entries (length b / 4) q.0) (held_count s.held q.1);
   }
 
 -- an entry that is no name
-booked_other : (t : List ℕ) (size : ℕ) (is : List Entry) (b : List ℕ) (st : St) (k n x y z : ℕ) → Booked t size is b st.entries st.names st.datums st.bytes st.root st.bfull
-    → (k ≡ 50 → ⊥) → k < 128 → (st.bfull ≡ false → n ≡ how_many k is)
-    → Booked t size (added k is x y z) (entry_list b (cells st) (word_of k (low n)) x y z)
+booked_other : (t : List ℕ) (size : ℕ) (is : List Entry) (b : List ℕ) (st : State) (k n x y z : ℕ) → Booked t size is b st.entries st.names st.datums st.bytes st.root st.book_full
+    → (k ≡ 50 → ⊥) → k < 128 → (st.book_full ≡ false → n ≡ how_many k is)
+    → Booked t size (added k is x y z) (entry_list b st (word_of k (low n)) x y z)
     (pick (ltb st.entries (length b / 4)) (st.entries + 1) st.entries)
     (pick (eqb k 50) (more st.names (length b / 4)) st.names) (pick (eqb k 51) (more st.datums (length b / 4)) st.datums) (pick (eqb k 52) (more st.bytes (length b / 4)) st.bytes)
-    st.root (pick (ltb st.entries (length b / 4)) st.bfull true)
+    st.root (pick (ltb st.entries (length b / 4)) st.book_full true)
 booked_other t size is b st k n x y z s e j h =
     booked_entry t size is b b st k k n x y z z st.root s refl (bare_other (entry k (next_number k is) x y z) (le-ltb 127 k (omega arith))) h
     (λ f r. let w = s.written f in record {
@@ -361,58 +362,58 @@ booked_other t size is b st k n x y z s e j h =
     })
 
 -- a symbol: it is found, or it is made
-symbol_kept : (t b : List ℕ) (st : St) (x n g : ℕ) → entry_of t b (cells st) x n g < known b (cells st)
-    → (symbol_list t b (cells st) x n g ≡ b) × (symbol_st t b (cells st) x n g ≡ cells st) × (symbol_number t b (cells st) x n g ≡ payload_at b (4 * entry_of t b (cells st) x n g))
+symbol_kept : (t b : List ℕ) (st : State) (x n g : ℕ) → entry_of t b st x n g < known b st
+    → (symbol_list t b st x n g ≡ b) × (symbol_st t b st x n g ≡ st) × (symbol_number t b st x n g ≡ payload_at b (4 * entry_of t b st x n g))
 unfolding symbol_list symbol_st symbol_number
-symbol_kept t b st x n g h = let l = lt-ltb (entry_of t b (cells st) x n g) (known b (cells st)) h in (rw l, rw l, rw l)
+symbol_kept t b st x n g h = let l = lt-ltb (entry_of t b st x n g) (known b st) h in (rw l, rw l, rw l)
 
-symbol_made : (t b : List ℕ) (st : St) (x n g : ℕ) → known b (cells st) ≤ entry_of t b (cells st) x n g
-    → (symbol_list t b (cells st) x n g ≡ entry_list (linked b (cells st) (descent_to t b (cells st) x n g)) (cells st) (word_of (name_tag t x n g) (low st.names)) x n (sigil_code g))
-    × (symbol_st t b (cells st) x n g ≡ cells (with_names (entry_in b st) (more st.names (length b / 4)) (root_of b (cells st)))) × (symbol_number t b (cells st) x n g ≡ low st.names)
+symbol_made : (t b : List ℕ) (st : State) (x n g : ℕ) → known b st ≤ entry_of t b st x n g
+    → (symbol_list t b st x n g ≡ entry_list (linked b st (descent_to t b st x n g)) st (word_of (name_tag t x n g) (low st.names)) x n (sigil_code g))
+    × (symbol_st t b st x n g ≡ (with_names (entry_in b st) (more st.names (length b / 4)) (root_of b st))) × (symbol_number t b st x n g ≡ low st.names)
 unfolding symbol_list symbol_st symbol_number
-symbol_made t b st x n g h = let l = le-ltb (entry_of t b (cells st) x n g) (known b (cells st)) h in (rw l, rw (l, entry_form b st), rw l)
+symbol_made t b st x n g h = let l = le-ltb (entry_of t b st x n g) (known b st) h in (rw l, rw (l, entry_form b st), rw l)
 
 -- while the book fits, the search in it is the rules'
-pub record Found (t : List ℕ) (is : List Entry) (b : List ℕ) (st : St) (x n g : ℕ) : Type 0 where
-  pub known_is : known b (cells st) ≡ length is
-  pub tree : Tree t b (known b (cells st)) st.root
-  pub finds : Finds (find_name t is x n g) (length is) (entry_of t b (cells st) x n g) b
+pub record Found (t : List ℕ) (is : List Entry) (b : List ℕ) (st : State) (x n g : ℕ) : Type 0 where
+  pub known_is : known b st ≡ length is
+  pub tree : Tree t b (known b st) st.root
+  pub finds : Finds (find_name t is x n g) (length is) (entry_of t b st x n g) b
 
-search_same : (t : List ℕ) (size : ℕ) (is : List Entry) (b : List ℕ) (st : St) (x n g : ℕ) → Sigil g
-    → Booked t size is b st.entries st.names st.datums st.bytes st.root st.bfull → st.bfull ≡ false → Found t is b st x n g
+search_same : (t : List ℕ) (size : ℕ) (is : List Entry) (b : List ℕ) (st : State) (x n g : ℕ) → Sigil g
+    → Booked t size is b st.entries st.names st.datums st.bytes st.root st.book_full → st.book_full ≡ false → Found t is b st x n g
 search_same t size is b st x n g p s f =
     let w = s.written f in
-    let e : known b (cells st) ≡ length is = omega (arith, held_count s.held f, held_fits s.held f, s.long) in
-    let T : Tree t b (known b (cells st)) st.root = rw e w.tree in
-    let m : known b (cells st) ≡ length w.qs = e ∙ sym (written_length w) in
+    let e : known b st ≡ length is = omega (arith, held_count s.held f, held_fits s.held f, s.long) in
+    let T : Tree t b (known b st) st.root = rw e w.tree in
+    let m : known b st ≡ length w.qs = e ∙ sym (written_length w) in
     let l = lookup_finds t b x n g 0 (length is) [] w.qs (replicate (size - length (words_of entry_words w.qs)) 0) p w.words_are refl (omega (arith, written_length w)) (omega arith)
     w.tree (rw w.bare_are s.small) in
     record {
       known_is = e;
       tree = T;
-      finds = rw (seek_is t b x n g (cells st) T, m) (rw w.bare_are at l);
+      finds = rw (seek_is t b x n g st T, m) (rw w.bare_are at l);
     }
 
 -- what a symbol comes to
-pub record Symbols (t : List ℕ) (size : ℕ) (is : List Entry) (b : List ℕ) (st : St) (x n g : ℕ) (ks : List Entry) (v : ℕ) : Type 0 where
+pub record Symbols (t : List ℕ) (size : ℕ) (is : List Entry) (b : List ℕ) (st : State) (x n g : ℕ) (ks : List Entry) (v : ℕ) : Type 0 where
   pub entries : ℕ
   pub names : ℕ
   pub root : ℕ
   pub full : Bool
-  pub state : symbol_st t b (cells st) x n g ≡ cells (with_names (with_entries st entries full) names root)
-  pub later : full ≡ false → st.bfull ≡ false
-  pub booked : Booked t size ks (symbol_list t b (cells st) x n g) entries names st.datums st.bytes root full
-  pub number : full ≡ false → v ≡ symbol_number t b (cells st) x n g
+  pub state : symbol_st t b st x n g ≡ (with_names (with_entries st entries full) names root)
+  pub later : full ≡ false → st.book_full ≡ false
+  pub booked : Booked t size ks (symbol_list t b st x n g) entries names st.datums st.bytes root full
+  pub number : full ≡ false → v ≡ symbol_number t b st x n g
 
 -- the link of a new name is set in the words of an earlier one
-name_puts : (t : List ℕ) (size : ℕ) (is : List Entry) (b : List ℕ) (st : St) (x n g h : ℕ) → Written t size is b st.root → length is ≡ st.entries → Tree t b (known b (cells st)) st.root → entry_of t b (cells st) x n g ≡ known b (cells st)
-    → st.entries < length b / 4 → kind h ≡ name_tag t x n g → Puts t size is (linked b (cells st) (descent_to t b (cells st) x n g)) st.entries h x n (sigil_code g) (root_of b (cells st))
-name_puts t size is b st x n g h w l T a r k = go (linking t b x n g h (cells st) T a r k)
+name_puts : (t : List ℕ) (size : ℕ) (is : List Entry) (b : List ℕ) (st : State) (x n g h : ℕ) → Written t size is b st.root → length is ≡ st.entries → Tree t b (known b st) st.root → entry_of t b st x n g ≡ known b st
+    → st.entries < length b / 4 → kind h ≡ name_tag t x n g → Puts t size is (linked b st (descent_to t b st x n g)) st.entries h x n (sigil_code g) (root_of b st)
+name_puts t size is b st x n g h w l T a r k = go (linking t b x n g h st T a r k)
   where
-    tree : Tree t (four (linked b (cells st) (descent_to t b (cells st) x n g)) st.entries h x n (sigil_code g)) (st.entries + 1) (root_of b (cells st))
-    tree = tree_name t b x n g h (cells st) T a r k
+    tree : Tree t (four (linked b st (descent_to t b st x n g)) st.entries h x n (sigil_code g)) (st.entries + 1) (root_of b st)
+    tree = tree_name t b x n g h st T a r k
 
-    go : Linking t b x n g (cells st) → Puts t size is (linked b (cells st) (descent_to t b (cells st) x n g)) st.entries h x n (sigil_code g) (root_of b (cells st))
+    go : Linking t b x n g st → Puts t size is (linked b st (descent_to t b st x n g)) st.entries h x n (sigil_code g) (root_of b st)
     go (from_none e) = record { rs = w.qs; words_are = e ∙ w.words_are; bare_are = w.bare_are; tree = tree }
     go (from_name i u e j c) =
         let v : ℕ = with_link (side u) (get_or b (4 * i + 3) 0) st.entries in
@@ -427,28 +428,28 @@ name_puts t size is b st x n g h w l T a r k = go (linking t b x n g h (cells st
           tree = tree;
         }
 
-made : (t : List ℕ) (size : ℕ) (is : List Entry) (b : List ℕ) (st : St) (x n g : ℕ) → Sigil g → Booked t size is b st.entries st.names st.datums st.bytes st.root st.bfull
-    → Found t is b st x n g → entry_of t b (cells st) x n g ≡ known b (cells st) → Symbols t size is b st x n g (added 50 is x n g) (next_number 50 is)
+made : (t : List ℕ) (size : ℕ) (is : List Entry) (b : List ℕ) (st : State) (x n g : ℕ) → Sigil g → Booked t size is b st.entries st.names st.datums st.bytes st.root st.book_full
+    → Found t is b st x n g → entry_of t b st x n g ≡ known b st → Symbols t size is b st x n g (added 50 is x n g) (next_number 50 is)
 made t size is b st x n g p s o a =
     let m = symbol_made t b st x n g (omega arith) in
     record {
       entries = pick (ltb st.entries (length b / 4)) (st.entries + 1) st.entries;
       names = more st.names (length b / 4);
-      root = root_of b (cells st);
-      full = pick (ltb st.entries (length b / 4)) st.bfull true;
+      root = root_of b st;
+      full = pick (ltb st.entries (length b / 4)) st.book_full true;
       state = m.1;
       later = entry_later b st;
       booked = rw m.0
-          (booked_entry t size is b (linked b (cells st) (descent_to t b (cells st) x n g)) st 50 (name_tag t x n g) st.names x n (sigil_code g) g (root_of b (cells st)) s (linked_length t b x n g (cells st)) (bare_name (name_tag t x n g) (next_number 50 is) x n g (tag_high (hash_of t x (sigil_code g) n)) p) (λ f. (s.counted f).names_are)
+          (booked_entry t size is b (linked b st (descent_to t b st x n g)) st 50 (name_tag t x n g) st.names x n (sigil_code g) g (root_of b st) s (linked_length t b x n g st) (bare_name (name_tag t x n g) (next_number 50 is) x n g (tag_high (hash_of t x (sigil_code g) n)) p) (λ f. (s.counted f).names_are)
           (λ f r. name_puts t size is b st x n g (word_of (name_tag t x n g) (next_number 50 is)) (s.written f) (held_count s.held f) o.tree a r (head_kind (name_tag t x n g) (next_number 50 is))));
-      number = rw m.2 (λ f. ap low (sym (s.counted (pick_sticky (ltb st.entries (length b / 4)) st.bfull f).1).names_are));
+      number = rw m.2 (λ f. ap low (sym (s.counted (pick_sticky (ltb st.entries (length b / 4)) st.book_full f).1).names_are));
     }
 
-kept : (t : List ℕ) (size : ℕ) (is : List Entry) (b : List ℕ) (st : St) (x n g v : ℕ) → Booked t size is b st.entries st.names st.datums st.bytes st.root st.bfull
-    → entry_of t b (cells st) x n g < known b (cells st) → (st.bfull ≡ false → v ≡ payload_at b (4 * entry_of t b (cells st) x n g)) → Symbols t size is b st x n g is v
+kept : (t : List ℕ) (size : ℕ) (is : List Entry) (b : List ℕ) (st : State) (x n g v : ℕ) → Booked t size is b st.entries st.names st.datums st.bytes st.root st.book_full
+    → entry_of t b st x n g < known b st → (st.book_full ≡ false → v ≡ payload_at b (4 * entry_of t b st x n g)) → Symbols t size is b st x n g is v
 kept t size is b st x n g v s h e =
     let m = symbol_kept t b st x n g h in
-    record { entries = st.entries; names = st.names; root = st.root; full = st.bfull; state = m.1; later = λ f. f; booked = rw m.0 s; number = rw m.2 e }
+    record { entries = st.entries; names = st.names; root = st.root; full = st.book_full; state = m.1; later = λ f. f; booked = rw m.0 s; number = rw m.2 e }
 
 -- full already: whatever is found, nothing more is known
 over : (t : List ℕ) (size : ℕ) (is ks : List Entry) (b b' : List ℕ) (entries names datums bytes root names' root' : ℕ) (full : Bool) → Booked t size is b entries names datums bytes root full
@@ -456,18 +457,18 @@ over : (t : List ℕ) (size : ℕ) (is ks : List Entry) (b b' : List ℕ) (entri
 over t size is ks b b' entries names datums bytes root names' root' full s f h i e =
     record { long = e ∙ s.long; held = held_over (length ks) s.held f h; small = i; written = λ z. never z; counted = λ z. never z }
 
-over_made : (t : List ℕ) (size : ℕ) (is ks : List Entry) (b : List ℕ) (st : St) (x n g v : ℕ) → Booked t size is b st.entries st.names st.datums st.bytes st.root st.bfull
-    → st.bfull ≡ true → length is ≤ length ks → all_small ks ≡ true → Dec (entry_of t b (cells st) x n g < known b (cells st)) → Symbols t size is b st x n g ks v
+over_made : (t : List ℕ) (size : ℕ) (is ks : List Entry) (b : List ℕ) (st : State) (x n g v : ℕ) → Booked t size is b st.entries st.names st.datums st.bytes st.root st.book_full
+    → st.book_full ≡ true → length is ≤ length ks → all_small ks ≡ true → Dec (entry_of t b st x n g < known b st) → Symbols t size is b st x n g ks v
 over_made t size is ks b st x n g v s f h i (yes d) =
     let m = symbol_kept t b st x n g d in
     record {
       entries = st.entries;
       names = st.names;
       root = st.root;
-      full = st.bfull;
+      full = st.book_full;
       state = m.1;
       later = λ z. z;
-      booked = rw (m.0, f) (over t size is ks b b st.entries st.names st.datums st.bytes st.root st.names st.root st.bfull s f h i refl);
+      booked = rw (m.0, f) (over t size is ks b b st.entries st.names st.datums st.bytes st.root st.names st.root st.book_full s f h i refl);
       number = λ z. never (sym f ∙ z);
     }
 over_made t size is ks b st x n g v s f h i (no d) =
@@ -476,13 +477,13 @@ over_made t size is ks b st x n g v s f h i (no d) =
     record {
       entries = st.entries;
       names = more st.names (length b / 4);
-      root = root_of b (cells st);
+      root = root_of b st;
       full = true;
       state = rw o at m.1;
       later = λ z. never z;
       booked = rw m.0
-          (over t size is ks b (entry_list (linked b (cells st) (descent_to t b (cells st) x n g)) (cells st) (word_of (name_tag t x n g) (low st.names)) x n (sigil_code g)) st.entries st.names st.datums st.bytes st.root (more st.names (length b / 4)) (root_of b (cells st)) st.bfull s f h i
-          (entry_long (linked b (cells st) (descent_to t b (cells st) x n g)) st (word_of (name_tag t x n g) (low st.names)) x n (sigil_code g) ∙ linked_length t b x n g (cells st)));
+          (over t size is ks b (entry_list (linked b st (descent_to t b st x n g)) st (word_of (name_tag t x n g) (low st.names)) x n (sigil_code g)) st.entries st.names st.datums st.bytes st.root (more st.names (length b / 4)) (root_of b st) st.book_full s f h i
+          (entry_long (linked b st (descent_to t b st x n g)) st (word_of (name_tag t x n g) (low st.names)) x n (sigil_code g) ∙ linked_length t b x n g st));
       number = λ z. never z;
     }
 
@@ -495,47 +496,47 @@ abbrev number_of : Search → List Entry → ℕ
 number_of (found v) is = v
 number_of missing is = next_number 50 is
 
-symbols : (t : List ℕ) (size : ℕ) (is : List Entry) (b : List ℕ) (st : St) (x n g : ℕ) → Sigil g → Booked t size is b st.entries st.names st.datums st.bytes st.root st.bfull
+symbols : (t : List ℕ) (size : ℕ) (is : List Entry) (b : List ℕ) (st : State) (x n g : ℕ) → Sigil g → Booked t size is b st.entries st.names st.datums st.bytes st.root st.book_full
     → Symbols t size is b st x n g (entries_of (find_name t is x n g) is x n g) (number_of (find_name t is x n g) is)
 unfolding Finds
-symbols t size is b st x n g p s = which st.bfull refl (find_name t is x n g) refl
+symbols t size is b st x n g p s = which st.book_full refl (find_name t is x n g) refl
   where
-    which : (f : Bool) → st.bfull ≡ f → (o : Search) → find_name t is x n g ≡ o → Symbols t size is b st x n g (entries_of o is x n g) (number_of o is)
-    which true f (found v) e = over_made t size is is b st x n g v s f (omega arith) s.small (dec_lt (entry_of t b (cells st) x n g) (known b (cells st)))
+    which : (f : Bool) → st.book_full ≡ f → (o : Search) → find_name t is x n g ≡ o → Symbols t size is b st x n g (entries_of o is x n g) (number_of o is)
+    which true f (found v) e = over_made t size is is b st x n g v s f (omega arith) s.small (dec_lt (entry_of t b st x n g) (known b st))
     which true f missing e = over_made t size is (added 50 is x n g) b st x n g (next_number 50 is) s f (omega (arith, length_snoc is (entry 50 (next_number 50 is) x n g)))
-        (small_snoc is (entry 50 (next_number 50 is) x n g) s.small (small_number 50 is)) (dec_lt (entry_of t b (cells st) x n g) (known b (cells st)))
+        (small_snoc is (entry 50 (next_number 50 is) x n g) s.small (small_number 50 is)) (dec_lt (entry_of t b st x n g) (known b st))
     which false f (found v) e =
         let q = search_same t size is b st x n g p s f in
-        let w : Finds (found v) (length is) (entry_of t b (cells st) x n g) b = rw e at q.finds in
+        let w : Finds (found v) (length is) (entry_of t b st x n g) b = rw e at q.finds in
         kept t size is b st x n g v s (omega (arith, q.known_is, w.0)) (λ z. sym w.1)
     which false f missing e =
         let q = search_same t size is b st x n g p s f in
-        let w : Finds missing (length is) (entry_of t b (cells st) x n g) b = rw e at q.finds in
+        let w : Finds missing (length is) (entry_of t b st x n g) b = rw e at q.finds in
         made t size is b st x n g p s q (w ∙ sym q.known_is)
 
 -- closing up takes the links away
-pub unlinked_exact : (t : List ℕ) (size : ℕ) (is : List Entry) (b : List ℕ) (st : St) → Booked t size is b st.entries st.names st.datums st.bytes st.root st.bfull
-    → Exact entry_words size is (unlinked b (cells st)) st.entries st.bfull
+pub unlinked_exact : (t : List ℕ) (size : ℕ) (is : List Entry) (b : List ℕ) (st : State) → Booked t size is b st.entries st.names st.datums st.bytes st.root st.book_full
+    → Exact entry_words size is (unlinked b st) st.entries st.book_full
 unfolding unlinked
 unlinked_exact t size is b st s = record {
-  long = unlink_length b 0 (known b (cells st)) ∙ s.long;
+  long = unlink_length b 0 (known b st) ∙ s.long;
   held = s.held;
   same = λ f.
       let w = s.written f in
-      let m : known b (cells st) ≡ length w.qs = omega (arith, held_count s.held f, held_fits s.held f, s.long, written_length w) in
+      let m : known b st ≡ length w.qs = omega (arith, held_count s.held f, held_fits s.held f, s.long, written_length w) in
       ap (λ (z : ℕ). unlink_from b 0 z) m ∙ unlink_all size w.qs b w.words_are ∙ ap (λ (z : List Entry). fill size (words_of entry_words z)) w.bare_are;
 }
 
--- The whole memory: its numbers are those of some St.
+-- The whole memory: its numbers are those of some State.
 pub record Sim (t : List ℕ) (L N B : ℕ) (i : Ideal) (m : Mem) : Type 0 where
-  pub st : St
-  pub is : m.st ≡ cells st
-  pub listed : Listed L i.records m.list st.records st.lfull st.bfull
-  pub noted : Exact note_words N i.notes m.notes st.notes st.nfull
-  pub booked : Booked t B i.entries m.book st.entries st.names st.datums st.bytes st.root st.bfull
+  pub st : State
+  pub is : m.st ≡ st
+  pub listed : Listed L i.records m.list st.records st.list_full st.book_full
+  pub noted : Exact note_words N i.notes m.notes st.notes st.notes_full
+  pub booked : Booked t B i.entries m.book st.entries st.names st.datums st.bytes st.root st.book_full
   pub line : i.line ≡ st.line
   pub first_none : eqb i.first_datum 0 ≡ eqb st.first 0
-  pub first_is : st.bfull ≡ false → i.first_datum ≡ st.first
+  pub first_is : st.book_full ≡ false → i.first_datum ≡ st.first
   pub first_small : st.first < 4294967296
   pub whole : all_fresh i.records ≡ true
 
@@ -551,14 +552,14 @@ Room L m = (list_full m.st ≡ false) × (records_in m.st < most_records L)
 
 -- the flags and the numbers as the memory has them
 module _ {t : List ℕ} {L N B : ℕ} {i : Ideal} {m : Mem} (s : Sim t L N B i m) where
-  pub list_full_lem : list_full m.st ≡ s.st.lfull
-  list_full_lem = rw s.is (flag_is s.st.lfull)
+  pub list_full_lem : list_full m.st ≡ s.st.list_full
+  list_full_lem = rw s.is refl
 
-  pub book_full_lem : book_full m.st ≡ s.st.bfull
-  book_full_lem = rw s.is (flag_is s.st.bfull)
+  pub book_full_lem : book_full m.st ≡ s.st.book_full
+  book_full_lem = rw s.is refl
 
   pub records_held : Held (most_records L) (length i.records) (records_in m.st) (list_full m.st)
-  records_held = rw (s.is, flag_is s.st.lfull) s.listed.held
+  records_held = rw s.is s.listed.held
 
   pub count_is : Fits m → length i.records ≡ as_word (records_in m.st)
   count_is f = omega (arith, held_count records_held f, records_held.number)
@@ -593,7 +594,7 @@ module _ (L N B : ℕ) (t : List ℕ) (clean : Ideal → Ideal) where
   }
 
   pub sim_emit : (i : Ideal) (m : Mem) (k : ℕ) (r : Range) (a a' b b' c : ℕ) → fresh k b ≡ true → (s : Sim t L N B i m)
-      → (s.st.lfull ≡ false → hide_rec s.st.bfull (rec k s.st.line r a' b' c) ≡ hide_rec s.st.bfull (rec k s.st.line r a b c))
+      → (s.st.list_full ≡ false → hide_rec s.st.book_full (rec k s.st.line r a' b' c) ≡ hide_rec s.st.book_full (rec k s.st.line r a b c))
       → Sim t L N B ((ideal_r t clean).emit i k r a b c) ((mem_r t).emit m k r a' b' c)
   sim_emit i m k r a a' b b' c w s e =
       let h : i.line ≡ s.st.line = s.line in
@@ -616,7 +617,7 @@ module _ (L N B : ℕ) (t : List ℕ) (clean : Ideal → Ideal) where
     st = note_in m.notes s.st;
     is = rw s.is (note_form m.notes s.st);
     listed = s.listed;
-    noted = rw (s.is, same_head k l l' e) (exact_put note_words (λ x. refl) N i.notes m.notes s.st.notes s.st.nfull (note_of k l r v) (word_of k l) (range_word r) v 0 refl s.noted);
+    noted = rw (s.is, same_head k l l' e) (exact_put note_words (λ x. refl) N i.notes m.notes s.st.notes s.st.notes_full (note_of k l r v) (word_of k l) (range_word r) v 0 refl s.noted);
     booked = s.booked;
     line = s.line;
     first_none = s.first_none;
@@ -635,7 +636,7 @@ module _ (L N B : ℕ) (t : List ℕ) (clean : Ideal → Ideal) where
       record {
         st = with_data (entry_in m.book s.st) (more s.st.datums (length m.book / 4)) (first_of s.st.first (low s.st.datums));
         is = rw (s.is, entry_form m.book s.st);
-        listed = listed_later L i.records m.list s.st.records s.st.lfull s.st.bfull (entry_in m.book s.st).bfull o s.listed;
+        listed = listed_later L i.records m.list s.st.records s.st.list_full s.st.book_full (entry_in m.book s.st).book_full o s.listed;
         noted = s.noted;
         booked = rw s.is (booked_other t B i.entries m.book s.st 51 s.st.datums x n q s.booked (λ e. omega arith) (omega arith) (λ f. (s.booked.counted f).datums_are));
         line = s.line;
@@ -652,7 +653,7 @@ module _ (L N B : ℕ) (t : List ℕ) (clean : Ideal → Ideal) where
       record {
         st = with_bytes (entry_in m.book s.st) (more s.st.bytes (length m.book / 4));
         is = rw (s.is, entry_form m.book s.st);
-        listed = listed_later L i.records m.list s.st.records s.st.lfull s.st.bfull (entry_in m.book s.st).bfull o s.listed;
+        listed = listed_later L i.records m.list s.st.records s.st.list_full s.st.book_full (entry_in m.book s.st).book_full o s.listed;
         noted = s.noted;
         booked = rw s.is (booked_other t B i.entries m.book s.st 52 s.st.bytes x n v s.booked (λ e. omega arith) (omega arith) (λ f. (s.booked.counted f).bytes_are));
         line = s.line;
@@ -671,7 +672,7 @@ module _ (L N B : ℕ) (t : List ℕ) (clean : Ideal → Ideal) where
       with_entries_lem ks v q = record {
         st = with_names (with_entries s.st q.entries q.full) q.names q.root;
         is = rw s.is q.state;
-        listed = listed_later L i.records m.list s.st.records s.st.lfull s.st.bfull q.full q.later s.listed;
+        listed = listed_later L i.records m.list s.st.records s.st.list_full s.st.book_full q.full q.later s.listed;
         noted = s.noted;
         booked = rw s.is q.booked;
         line = s.line;
@@ -692,7 +693,7 @@ module _ (L N B : ℕ) (t : List ℕ) (clean : Ideal → Ideal) where
   sim_symbol_number i m x n g p s f = go (find_name t i.entries x n g) (symbols t B i.entries m.book s.st x n g p s.booked)
     where
       same : (ks : List Entry) (v : ℕ) → Symbols t B i.entries m.book s.st x n g ks v → v ≡ symbol_number t m.book m.st x n g
-      same ks v q = rw s.is (q.number (rw (s.is, q.state, flag_is q.full) at f))
+      same ks v q = rw s.is (q.number (rw (s.is, q.state) at f))
 
       go : (o : Search) → Symbols t B i.entries m.book s.st x n g (entries_of o i.entries x n g) (number_of o i.entries)
           → (symbol_in o i x n g).number ≡ symbol_number t m.book m.st x n g
@@ -701,8 +702,8 @@ module _ (L N B : ℕ) (t : List ℕ) (clean : Ideal → Ideal) where
 
   -- a record changed
   sim_change : (w : List ℕ → List ℕ) (f g : Rec → Rec) → ((r : Rec) (ys : List ℕ) → w (rec_words r ++ ys) ≡ rec_words (g r) ++ ys) → ((p : List ℕ) → length (w p) ≡ length p)
-      → (i : Ideal) (m : Mem) (k k' : ℕ) → (s : Sim t L N B i m) → (s.st.lfull ≡ false → k ≡ k')
-      → (s.st.lfull ≡ false → (r : Rec) → hide_rec s.st.bfull r ≡ hide_rec s.st.bfull (get_or i.records k no_rec) → hide_rec s.st.bfull (g r) ≡ hide_rec s.st.bfull (f (get_or i.records k no_rec)))
+      → (i : Ideal) (m : Mem) (k k' : ℕ) → (s : Sim t L N B i m) → (s.st.list_full ≡ false → k ≡ k')
+      → (s.st.list_full ≡ false → (r : Rec) → hide_rec s.st.book_full r ≡ hide_rec s.st.book_full (get_or i.records k no_rec) → hide_rec s.st.book_full (g r) ≡ hide_rec s.st.book_full (f (get_or i.records k no_rec)))
       → fresh_rec (f (get_or i.records k no_rec)) ≡ true
       → Sim t L N B (ideal (change f i.records k) i.notes i.entries i.line i.first_datum) (mem (on_rec w m.list m.st k') m.notes m.book m.st)
   sim_change w f g h n i m k k' s e d v = record {
@@ -718,23 +719,23 @@ module _ (L N B : ℕ) (t : List ℕ) (clean : Ideal → Ideal) where
     whole = fresh_change f i.records k s.whole v;
   }
 
-  pub sim_patch : (i : Ideal) (m : Mem) (k k' v v' : ℕ) → (s : Sim t L N B i m) → (s.st.lfull ≡ false → k ≡ k') → (s.st.lfull ≡ false → v ≡ v') → Sim t L N B ((ideal_r t clean).patch i k v) ((mem_r t).patch m k' v')
+  pub sim_patch : (i : Ideal) (m : Mem) (k k' v v' : ℕ) → (s : Sim t L N B i m) → (s.st.list_full ≡ false → k ≡ k') → (s.st.list_full ≡ false → v ≡ v') → Sim t L N B ((ideal_r t clean).patch i k v) ((mem_r t).patch m k' v')
   sim_patch i m k k' v v' s e d = sim_change (set_a v') (with_a v) (with_a v') (λ r ys. refl) (λ p. length-set p 2 v') i m k k' s e
-      (λ z r a. rw (← d z) (blind_same s.st.bfull (with_a v) r (get_or i.records k no_rec) (blind_a s.st.bfull v) a)) (fresh_at i.records k s.whole)
+      (λ z r a. rw (← d z) (blind_same s.st.book_full (with_a v) r (get_or i.records k no_rec) (blind_a s.st.book_full v) a)) (fresh_at i.records k s.whole)
 
-  pub sim_patch_end : (i : Ideal) (m : Mem) (k k' v v' : ℕ) → (s : Sim t L N B i m) → (s.st.lfull ≡ false → k ≡ k') → (s.st.lfull ≡ false → v ≡ v') → Sim t L N B ((ideal_r t clean).patch_end i k v) ((mem_r t).patch_end m k' v')
+  pub sim_patch_end : (i : Ideal) (m : Mem) (k k' v v' : ℕ) → (s : Sim t L N B i m) → (s.st.list_full ≡ false → k ≡ k') → (s.st.list_full ≡ false → v ≡ v') → Sim t L N B ((ideal_r t clean).patch_end i k v) ((mem_r t).patch_end m k' v')
   sim_patch_end i m k k' v v' s e d = sim_change (set_c v') (with_c v) (with_c v') (λ r ys. refl) (λ p. length-set p 4 v') i m k k' s e
-      (λ z r a. rw (← d z) (blind_same s.st.bfull (with_c v) r (get_or i.records k no_rec) (blind_c s.st.bfull v) a)) (fresh_at i.records k s.whole)
+      (λ z r a. rw (← d z) (blind_same s.st.book_full (with_c v) r (get_or i.records k no_rec) (blind_c s.st.book_full v) a)) (fresh_at i.records k s.whole)
 
-  pub sim_settle : (i : Ideal) (m : Mem) (k v v' : ℕ) → eqb (get_or i.records k no_rec).call 25 ≡ false → (s : Sim t L N B i m) → (s.st.lfull ≡ false → v ≡ v') → Sim t L N B ((ideal_r t clean).settle i k v) ((mem_r t).settle m k v')
+  pub sim_settle : (i : Ideal) (m : Mem) (k v v' : ℕ) → eqb (get_or i.records k no_rec).call 25 ≡ false → (s : Sim t L N B i m) → (s.st.list_full ≡ false → v ≡ v') → Sim t L N B ((ideal_r t clean).settle i k v) ((mem_r t).settle m k v')
   sim_settle i m k v v' u s d = sim_change (settle_args v') (settled v) (settled v') (λ r ys. refl) (λ p. simp length-set) i m k k s (λ z. refl)
-      (λ z r a. rw (← d z) (blind_same s.st.bfull (settled v) r (get_or i.records k no_rec) (blind_settled s.st.bfull v) a)) (rw u)
+      (λ z r a. rw (← d z) (blind_same s.st.book_full (settled v) r (get_or i.records k no_rec) (blind_settled s.st.book_full v) a)) (rw u)
 
-  pub sim_settle_number : (i : Ideal) (m : Mem) (k v v' : ℕ) → (get_or i.records k no_rec).call ≡ 31 → (s : Sim t L N B i m) → (s.st.bfull ≡ false → v ≡ v') → Sim t L N B ((ideal_r t clean).settle i k v) ((mem_r t).settle m k v')
+  pub sim_settle_number : (i : Ideal) (m : Mem) (k v v' : ℕ) → (get_or i.records k no_rec).call ≡ 31 → (s : Sim t L N B i m) → (s.st.book_full ≡ false → v ≡ v') → Sim t L N B ((ideal_r t clean).settle i k v) ((mem_r t).settle m k v')
   sim_settle_number i m k v v' u s d = sim_change (settle_args v') (settled v) (settled v') (λ r ys. refl) (λ p. simp length-set) i m k k s (λ z. refl)
-      (λ z r a. blind_same s.st.bfull (settled v') r (get_or i.records k no_rec) (blind_settled s.st.bfull v') a
-      ∙ sym (hide_number s.st.bfull (get_or i.records k no_rec).call (get_or i.records k no_rec).line (get_or i.records k no_rec).range v v' 0 0 (rw u) d)) (rw u)
+      (λ z r a. blind_same s.st.book_full (settled v') r (get_or i.records k no_rec) (blind_settled s.st.book_full v') a
+      ∙ sym (hide_number s.st.book_full (get_or i.records k no_rec).call (get_or i.records k no_rec).line (get_or i.records k no_rec).range v v' 0 0 (rw u) d)) (rw u)
 
   pub sim_drop_label : (i : Ideal) (m : Mem) (k : ℕ) → eqb (get_or i.records k no_rec).call 25 ≡ false → Sim t L N B i m → Sim t L N B ((ideal_r t clean).drop_label i k) ((mem_r t).drop_label m k)
   sim_drop_label i m k u s = sim_change clear_args unlabelled unlabelled (λ r ys. refl) (λ p. simp length-set) i m k k s (λ z. refl)
-      (λ z r a. blind_same s.st.bfull unlabelled r (get_or i.records k no_rec) (blind_unlabelled s.st.bfull) a) (rw u)
+      (λ z r a. blind_same s.st.book_full unlabelled r (get_or i.records k no_rec) (blind_unlabelled s.st.book_full) a) (rw u)

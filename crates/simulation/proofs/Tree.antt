@@ -10,6 +10,7 @@ use borrow.Author.Tests.{lt-ltb, le-ltb, ltb-true, eqb-true, eq-eqb, ne_eqb}
 use native.Mathlib.Decide.{dec_lt, ℕ_discrete}
 use native.Mathlib.Omega.{arith}
 use Rattle.recorder.specs.declared.codegen.Descent.{Descent}
+use Rattle.recorder.specs.declared.codegen.State.{State}
 use Rattle.recorder.specs.Word.{pick, both, kind, kind_at, next}
 use Rattle.recorder.specs.Name.{upper, same_units, same_name}
 use Rattle.recorder.specs.Mem.{entries_in, root_in, four, sigil_code, sigil_of, link_of, with_link, known, tag_of, name_tag, named_at, lookup, hash_step, hash_of, child_of, has_child, descent_from, descent_to, entry_of, may_link, linked_at, linked, root_of}
@@ -197,7 +198,7 @@ module _ (t b : List ℕ) (x n g : ℕ) where
       early i m (no d) = p.before i (omega arith) m
 
 -- the search by the tree finds what the search in order finds
-module _ (t b : List ℕ) (x n g : ℕ) (s : List ℕ) (T : Tree t b (known b s) (root_in s)) where
+module _ (t b : List ℕ) (x n g : ℕ) (s : State) (T : Tree t b (known b s) (root_in s)) where
   abbrev N : ℕ
   N = known b s
 
@@ -531,7 +532,7 @@ pub tree_other : (t b : List ℕ) (n root h x y z : ℕ) → n < length b / 4 �
 tree_other t b n root h x y z room k j T =
     tree_grown t b (four b n h x y z) n (four_grown b n h x y z room) root T (λ e. absurd (k (rw (four_head b n h x y z room) at e))) (λ e. j (rw (four_head b n h x y z room) at e))
 
-pub linked_length : (t b : List ℕ) (x n g : ℕ) (s : List ℕ) → length (linked b s (descent_to t b s x n g)) ≡ length b
+pub linked_length : (t b : List ℕ) (x n g : ℕ) (s : State) → length (linked b s (descent_to t b s x n g)) ≡ length b
 unfolding linked linked_at
 linked_length t b x n g s = go (both (ltb 0 (root_in s)) (may_link b s)) (ltb (descent_to t b s x n g).at (length b / 4))
   where
@@ -541,12 +542,12 @@ linked_length t b x n g s = go (both (ltb 0 (root_in s)) (may_link b s)) (ltb (d
     go false d = refl
 
 -- what is linked: nothing, or an earlier name
-pub data Linking (t b : List ℕ) (x n g : ℕ) (s : List ℕ) : Type 0 where
+pub data Linking (t b : List ℕ) (x n g : ℕ) (s : State) : Type 0 where
   from_none : linked b s (descent_to t b s x n g) ≡ b → Linking t b x n g s
   from_name : (e u : ℕ) → linked b s (descent_to t b s x n g) ≡ link_book b (entries_in s) e u → e < entries_in s → 127 < kind_at b (4 * e) → Linking t b x n g s
 
 -- a new name: where its descent ends there is no child
-module _ (t b : List ℕ) (x n g h : ℕ) (s : List ℕ) (T : Tree t b (known b s) (root_in s)) (absent : entry_of t b s x n g ≡ known b s) (room : entries_in s < length b / 4) (tagged : kind h ≡ name_tag t x n g) where
+module _ (t b : List ℕ) (x n g h : ℕ) (s : State) (T : Tree t b (known b s) (root_in s)) (absent : entry_of t b s x n g ≡ known b s) (room : entries_in s < length b / 4) (tagged : kind h ≡ name_tag t x n g) where
   abbrev D : Descent
   D = descent_to t b s x n g
 

@@ -17,7 +17,8 @@ use Rattle.recorder.proofs.Words.{head_again, change_length, squash, raw_at}
 use Rattle.recorder.proofs.Bools.{both_parts, both_false}
 use Rattle.simulation.proofs.Change.{change_front, change_comm, change_twice, change_none, at_change, at_other}
 use Rattle.simulation.proofs.Hide.{fresh_rec, all_fresh}
-use Rattle.simulation.proofs.Cells.{St, cells, with_notes, note_in, note_form}
+use Rattle.recorder.specs.declared.codegen.State.{State}
+use Rattle.simulation.proofs.States.{with_notes, note_in, note_form}
 use Rattle.simulation.proofs.Sim.{Exact, exact_put}
 use Rattle.simulation.proofs.Delays.{Holds, holds_rec, holds_at}
 use Rattle.simulation.proofs.Whiles.{step_p, step_w, run_p, run_w, Below, below_more, below_step, step_length, notes_of, step_p_plain, step_p_other, seam, at_seam}
@@ -161,11 +162,6 @@ unfolding run_w
 run_below [] ws k b = below_more ws k (k + 0) (omega arith) b
 run_below (r ∷ rs) ws k b = let e : suc k + length rs ≡ k + suc (length rs) = omega arith in rw (← e) (run_below rs (step_w ws k r) (suc k) (below_step ws k r b))
 
-run_length : (rs : List Rec) (ps : List Rec) (ws : List ℕ) (k : ℕ) → length (run_p ps ws k rs) ≡ length ps + length rs
-unfolding run_p
-run_length [] ps ws k = omega arith
-run_length (r ∷ rs) ps ws k = run_length rs (step_p ps ws k r) (step_w ws k r) (suc k) ∙ omega (arith, step_length ps ws k r)
-
 -- the ends of the open WHILEs are not known
 unfoldable pub Unknown : List Rec → List ℕ → Type 0
 Unknown qs [] = length qs ≡ length qs
@@ -197,20 +193,20 @@ run_unknown (r ∷ rs) ps ws k u n b f =
     let q = both_parts (fresh_rec r) (all_fresh rs) f in
     run_unknown rs (step_p ps ws k r) (step_w ws k r) (suc k) (unknown_step ps ws k r rs u n b q.0 (is_while r) refl (is_wend r) refl) (step_length ps ws k r ∙ ap suc n) (below_step ws k r b) q.1
 
--- the notes, and the numbers: those of the notes, and the rest of St
-pub record Noted (N : ℕ) (is : List Note) (s : St) (P : Passed) : Type 0 where
+-- the notes, and the numbers: those of the notes, and the rest of State
+pub record Noted (N : ℕ) (is : List Note) (s : State) (P : Passed) : Type 0 where
   pub many : ℕ
   pub full : Bool
   pub exact : Exact note_words N is P.notes many full
-  pub rest : P.st ≡ cells (with_notes s many full)
+  pub rest : P.st ≡ (with_notes s many full)
 
 -- the WHILEs that are still open
-pub record Opened (size N : ℕ) (qs : List Rec) (is : List Note) (s : St) (P : Passed) : Type 0 where
+pub record Opened (size N : ℕ) (qs : List Rec) (is : List Note) (s : State) (P : Passed) : Type 0 where
   pub holds : Holds size qs P.list
   pub noted : Noted N is s P
 
 -- one of them: its note, and its link gone
-open_one : (size N : ℕ) (qs : List Rec) (w : ℕ) (ws : List ℕ) (is : List Note) (s : St) (p : Passed) (top : ℕ) → Linked size qs (w ∷ ws) p.list top → Below ws w → w < length qs → (get_or qs w no_rec).b ≡ 4294967295
+open_one : (size N : ℕ) (qs : List Rec) (w : ℕ) (ws : List ℕ) (is : List Note) (s : State) (p : Passed) (top : ℕ) → Linked size qs (w ∷ ws) p.list top → Below ws w → w < length qs → (get_or qs w no_rec).b ≡ 4294967295
     → Noted N is s p
     → Linked size qs ws (open_step p w).list (link_at p.list w) × Noted N (is ++ (note_of 13 (get_or qs w no_rec).line (get_or qs w no_rec).range 1 ∷ [])) s (open_step p w)
 unfolding note_list
@@ -231,7 +227,7 @@ open_one size N qs w ws is s p top h b i u x =
       },
       record {
         many = (note_in p.notes (with_notes s x.many x.full)).notes;
-        full = (note_in p.notes (with_notes s x.many x.full)).nfull;
+        full = (note_in p.notes (with_notes s x.many x.full)).notes_full;
         exact = rw (x.rest, g, k, head_again 13 (get_or qs w no_rec).call (get_or qs w no_rec).line)
             (exact_put note_words (λ e. refl) N is p.notes x.many x.full (note_of 13 (get_or qs w no_rec).line (get_or qs w no_rec).range 1)
             (word_of 13 (get_or qs w no_rec).line) (range_word (get_or qs w no_rec).range) 1 0 refl x.exact);
@@ -252,14 +248,14 @@ unfolding open_from
 open_next p top w left e = let y : top - 1 ≡ w = omega arith in rw (ne_eqb top 0 (λ z. omega arith), y)
 
 -- the others after it
-opened_next : (size N : ℕ) (qs : List Rec) (w : ℕ) (ws : List ℕ) (is : List Note) (s : St) (p : Passed) (top left : ℕ) → top ≡ suc w
+opened_next : (size N : ℕ) (qs : List Rec) (w : ℕ) (ws : List ℕ) (is : List Note) (s : State) (p : Passed) (top left : ℕ) → top ≡ suc w
     → Opened size N qs ((is ++ (note_of 13 (get_or qs w no_rec).line (get_or qs w no_rec).range 1 ∷ [])) ++ notes_of qs ws) s (open_from (open_step p w) (link_at p.list w) left)
     → Opened size N qs (is ++ notes_of qs (w ∷ ws)) s (open_from p top (suc left))
 unfolding notes_of
 opened_next size N qs w ws is s p top left h o =
     rw (open_next p top w left h, ← append_assoc is (note_of 13 (get_or qs w no_rec).line (get_or qs w no_rec).range 1 ∷ []) (notes_of qs ws)) o
 
-pub open_all : (size N : ℕ) (qs : List Rec) (ws : List ℕ) (is : List Note) (s : St) (p : Passed) (top left m : ℕ) → Linked size qs ws p.list top → Below ws m → m ≤ length qs → Unknown qs ws
+pub open_all : (size N : ℕ) (qs : List Rec) (ws : List ℕ) (is : List Note) (s : State) (p : Passed) (top left m : ℕ) → Linked size qs ws p.list top → Below ws m → m ≤ length qs → Unknown qs ws
     → Noted N is s p → length ws ≤ left
     → Opened size N qs (is ++ notes_of qs ws) s (open_from p top left)
 unfolding Below Unknown notes_of linked

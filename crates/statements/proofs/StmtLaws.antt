@@ -1,5 +1,5 @@
 -- compile_stmt, compile_if and compile_stmts: one law for each way out.
-use mathlib.Core.Path.{◌≡◌, refl, sym, ap, ◌∙◌}
+use mathlib.Core.Path.{◌≡◌, refl, sym, ◌∙◌}
 use mathlib.Core.List.{List}
 use mathlib.Core.Bool.{Bool, true, false}
 use Prim.Native.Nat.{ℕ, zero, suc, ◌-◌, ◌≤◌, ◌<◌}
@@ -7,7 +7,7 @@ use native.Mathlib.Numerals.{sub-one}
 use native.Mathlib.Omega.{arith}
 use Rattle.recorder.specs.declared.word.Range.{Range}
 use Rattle.recorder.specs.Word.{payload_at, range_at, next, choose}
-use Rattle.recorder.specs.Mem.{Mem, mem, mem_r, as_word, records_in}
+use Rattle.recorder.specs.Mem.{Mem, mem_r, as_word, records_in}
 use Rattle.sheet.specs.declared.form.Sort.TheVariants.{Expr as exprSort, Stmt as stmtSort}
 use Rattle.sheet.specs.declared.form.Shape.{Shape}
 use Rattle.sheet.specs.declared.form.Shape.TheVariants.{If}

@@ -28,6 +28,7 @@ use sheet::form::Shape;
 use transfers::loads::compile_load;
 use transfers::opens::compile_open;
 
+// The arms' functions take parameters of their own; a table of function pointers would lose which one is called.
 pub fn compile_plain(
     src: &Source,
     code: &mut CodeGen,

@@ -4,12 +4,11 @@ use mathlib.Core.List.{List}
 use mathlib.Core.Bool.{Bool, true, false}
 use Prim.Native.Nat.{ℕ, zero, suc, ◌-◌, ◌≤◌, ◌<◌}
 use lib.ListN.{get_or}
-use borrow.Author.Tests.{lt-ltb, le-ltb}
 use native.Mathlib.Numerals.{sub-one}
 use native.Mathlib.Omega.{arith}
 use Rattle.recorder.specs.declared.word.Range.{Range}
 use Rattle.recorder.specs.Word.{pick, payload_at, range_at, next}
-use Rattle.recorder.specs.Mem.{Mem, mem, mem_r}
+use Rattle.recorder.specs.Mem.{Mem, mem_r}
 use Rattle.sheet.specs.declared.form.Sort.TheVariants.{Expr as exprSort}
 use Rattle.sheet.specs.declared.form.Shape.TheVariants.{Load}
 use Rattle.sheet.specs.Skip.{skip_node, skip_repeat, skip_list, skip_fields, skip_field, skip_times, skip_pair, skip_item}

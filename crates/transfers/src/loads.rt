@@ -11,9 +11,10 @@ ghost use Rattle.transfers.specs.Parts.{read_of, BytesNoted, Loaded};
 use nodes::source::Source;
 use recorder::call::{Call, Class};
 use recorder::codegen::CodeGen;
+use recorder::unit::{BLANK, NINE, PLUS, ZERO};
 use recorder::word::Range;
 use rules::types::Type;
-use sheet::form::{Shape, Sort};
+use sheet::form::{ExprKind, Shape, Sort};
 
 // A byte that is being read: its value so far, nothing yet, a plus, or what is no byte.
 #[derive(Clone, Copy)]
@@ -44,6 +45,7 @@ fn digit_behind(b: ReadByte, d: u16) -> ReadByte
     }
 }
 
+// A step of the reading, no conversion: a plus comes first, or what is read is no byte.
 fn plus_behind(b: ReadByte) -> ReadByte
     ensures { read_of result ≡ plus (read_of b) }
 {
@@ -58,9 +60,9 @@ fn byte_unit(b: ReadByte, u: u16) -> ReadByte
     ensures { read_of result ≡ byte_unit (read_of b) u }
 {
     match u {
-        32 => b,
-        43 => plus_behind(b),
-        48..=57 => digit_behind(b, u - 48),
+        BLANK => b,
+        PLUS => plus_behind(b),
+        ZERO..=NINE => digit_behind(b, u - ZERO),
         _ => ReadByte::Bad,
     }
 }
@@ -72,7 +74,7 @@ fn byte_units(text: &[u16], at: usize, n: u32) -> ReadByte
     let mut b = ReadByte::Nothing;
     for _ in 0..n {
         b = byte_unit(b, recorder::word::unit_at(text, p));
-        p = recorder::word::behind_unit(text, p);
+        p = recorder::word::behind(text, p);
     }
     b
 }
@@ -90,20 +92,21 @@ impl ReadByte {
 }
 
 // The byte that the argument at a place is.
-#[tactic(auto, using(crate::proofs::LoadLaws::byte_zero, crate::proofs::LoadLaws::byte_other))]
+#[tactic(auto, using(crate::proofs::LoadLaws::byte_zero))]
 fn byte_of(src: &Source, at: usize, left: usize) -> Option<u8>
     ensures { opt_of result ≡ byte_of src.now.text.now src.now.base (expr_at src.now.sheet.now left at) }
 {
     if left == 0 {
         return None;
     }
-    if recorder::word::payload_at(src.sheet, at) == 2 {
-        let r = expressions::expr::node_range(src.sheet, at);
-        let a = rules::name::text_place(src.base, r.start as u32);
-        let n = rules::name::units(r);
-        byte_units(src.text, a as usize, n).byte()
-    } else {
-        None
+    match ExprKind::of(recorder::word::payload_at(src.sheet, at)) {
+        ExprKind::NumberLit => {
+            let r = expressions::expr::node_range(src.sheet, at);
+            let a = rules::name::text_place(src.base, r.start as u32);
+            let n = rules::name::units(r);
+            byte_units(src.text, a as usize, n).byte()
+        }
+        _ => None,
     }
 }
 

@@ -29,6 +29,15 @@ module _ (s : List ℕ) where
   choose_skips p true f g a b = a
   choose_skips p false f g a b = b
 
+  pub over_file : (child : Sort → ℕ → ℕ) (k p : ℕ) → 2 ≤ k → skip_source s child k p ≡ child Expr p
+  over_file child zero p h = absurd (omega (arith, h))
+  over_file child (suc zero) p h = absurd (omega (arith, h))
+  over_file child (suc (suc k)) p h = refl
+
+  pub over_mark : (child : Sort → ℕ → ℕ) (k p : ℕ) → 1 ≤ k → skip_element s child k p ≡ next s p
+  over_mark child zero p h = absurd (omega (arith, h))
+  over_mark child (suc k) p h = refl
+
   module _ (child : Sort → ℕ → ℕ) (below : (c : Sort) (p : ℕ) → Steps s p (child c p)) where
     source_skips : (n p : ℕ) → Steps s p (skip_source s child n p)
     source_skips zero p = here s p

@@ -6,7 +6,7 @@ ghost use Rattle.sheet.specs.Form.{line_head, end_form};
 ghost use Rattle.sheet.specs.Skip.{skip_item, skip_pair, skip_list, skip_field, skip_fields, skip_node};
 
 use recorder::word::{behind, payload_at};
-use sheet::form::{Field, Item, Kind, Line, Offence, Sort, Times, Walk};
+use sheet::form::{ElementKind, Field, Item, Kind, Line, Offence, Sort, SourceKind, Times, Walk};
 use sheet::leaf::{is_absent, take_word};
 
 // A line of a sheet that is being read: the sheet's words, the text, and where the line's units lie in it.
@@ -52,28 +52,27 @@ pub fn end_form(sheet: &[u32], text: &[u16], base: usize, at: usize) -> Walk
 }
 
 #[cycle(skip_cycle)]
-#[tactic(auto, unfolding(sheet::specs::Skip::skip_item))]
+#[tactic(auto, using(sheet::proofs::Cases::keyboard_number, sheet::proofs::Cases::prompt_number), unfolding(sheet::specs::Skip::skip_item))]
 pub fn skip_source(sheet: &[u32], left: usize, at: usize) -> usize
     ensures { result ≡ skip_item sheet.now (skip_node sheet.now left) Item.Source at }
 {
     let p = behind(sheet, at);
-    match payload_at(sheet, at) {
-        0 => p,
-        1 => behind(sheet, p),
-        _ => skip_node(sheet, left, Sort::Expr, p),
+    match SourceKind::of(payload_at(sheet, at)) {
+        SourceKind::Keyboard => p,
+        SourceKind::KeyboardWithPrompt => behind(sheet, p),
+        SourceKind::File => skip_node(sheet, left, Sort::Expr, p),
     }
 }
 
 #[cycle(skip_cycle)]
-#[tactic(auto, unfolding(sheet::specs::Skip::skip_item))]
+#[tactic(auto, using(sheet::proofs::Cases::value_number), unfolding(sheet::specs::Skip::skip_item))]
 fn skip_element(sheet: &[u32], left: usize, at: usize) -> usize
     ensures { result ≡ skip_item sheet.now (skip_node sheet.now left) Item.Element at }
 {
     let p = behind(sheet, at);
-    if payload_at(sheet, at) == 0 {
-        skip_node(sheet, left, Sort::Expr, p)
-    } else {
-        behind(sheet, p)
+    match ElementKind::of(payload_at(sheet, at)) {
+        ElementKind::Expr => skip_node(sheet, left, Sort::Expr, p),
+        ElementKind::Comma | ElementKind::Semicolon => behind(sheet, p),
     }
 }
 

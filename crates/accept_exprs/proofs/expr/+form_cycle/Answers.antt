@@ -36,31 +36,31 @@ exprs_form-returns t c =
 pub expr_form-exprs_form-requires : goal.expr_form-exprs_form-requires
 expr_form-exprs_form-requires t c =
     let past = past_own c.args.form.now.sheet.now c.args.form.now.text.now c.args.form.now.line c.args.at _ _ _ (sym c.head_form.ensures ∙ c.in_ok-h.was) (sym c.own_form.ensures ∙ c.in_ok-q.was) in
-    omega (arith, c.decreases, past.0, past.1, later c.args.form.now.sheet.now _ _ _ _ (operator_ends c.args.form.now.sheet.now c.args.form.now.text.now c.args.form.now.line _ c.in_ok-q.q) c.operator_form.ensures c.in_ok-p-in-3.was)
+    omega (arith, c.decreases, past.0, past.1, later c.args.form.now.sheet.now _ _ _ _ (operator_ends c.args.form.now.sheet.now c.args.form.now.text.now c.args.form.now.line _ c.in_ok-q.q) c.operator_form.ensures c.in_ok-p-in-SysFuncCall.was)
 
 pub expr_form-expr_form-requires : goal.expr_form-expr_form-requires
 expr_form-expr_form-requires t c =
     let past = past_own c.args.form.now.sheet.now c.args.form.now.text.now c.args.form.now.line c.args.at _ _ _ (sym c.head_form.ensures ∙ c.in_ok-h.was) (sym c.own_form.ensures ∙ c.in_ok-q.was) in
-    omega (arith, c.decreases, past.0, past.1, later c.args.form.now.sheet.now _ _ _ _ (absent_or c.args.form.now.sheet.now c.in_ok-q.q (name_form c.args.form.now.sheet.now c.args.form.now.text.now c.args.form.now.line) (name_ends c.args.form.now.sheet.now c.args.form.now.text.now c.args.form.now.line c.in_ok-q.q)) c.optional_name_form.ensures c.in_ok-p-in-4.was)
+    omega (arith, c.decreases, past.0, past.1, later c.args.form.now.sheet.now _ _ _ _ (absent_or c.args.form.now.sheet.now c.in_ok-q.q (name_form c.args.form.now.sheet.now c.args.form.now.text.now c.args.form.now.line) (name_ends c.args.form.now.sheet.now c.args.form.now.text.now c.args.form.now.line c.in_ok-q.q)) c.optional_name_form.ensures c.in_ok-p-in-UserFuncCall.was)
 
-pub expr_form-expr_form-requires-in-5 : goal.expr_form-expr_form-requires-in-5
-expr_form-expr_form-requires-in-5 t c =
+pub expr_form-expr_form-requires-in-Binary : goal.expr_form-expr_form-requires-in-Binary
+expr_form-expr_form-requires-in-Binary t c =
     let past = past_own c.args.form.now.sheet.now c.args.form.now.text.now c.args.form.now.line c.args.at _ _ _ (sym c.head_form.ensures ∙ c.in_ok-h.was) (sym c.own_form.ensures ∙ c.in_ok-q.was) in
     omega (arith, c.decreases, past.0, past.1)
 
-pub expr_form-expr_form-requires-in-5-2 : goal.expr_form-expr_form-requires-in-5-2
-expr_form-expr_form-requires-in-5-2 t c =
+pub expr_form-expr_form-requires-in-Binary-2 : goal.expr_form-expr_form-requires-in-Binary-2
+expr_form-expr_form-requires-in-Binary-2 t c =
     let past = past_own c.args.form.now.sheet.now c.args.form.now.text.now c.args.form.now.line c.args.at _ _ _ (sym c.head_form.ensures ∙ c.in_ok-h.was) (sym c.own_form.ensures ∙ c.in_ok-q.was) in
-    let p = later c.args.form.now.sheet.now _ _ _ _ (node_ends c.args.form.now.sheet.now c.args.form.now.text.now c.args.form.now.line (c.args.left - 1) Expr c.in_ok-q.q) c.expr_form-in-5.ensures c.in_ok-p-in-5.was in
-    let o = later c.args.form.now.sheet.now _ _ _ _ (operator_ends c.args.form.now.sheet.now c.args.form.now.text.now c.args.form.now.line _ c.in_ok-p-in-5.p) c.operator_form-in-5.ensures c.in_ok-o-in-5.was in
+    let p = later c.args.form.now.sheet.now _ _ _ _ (node_ends c.args.form.now.sheet.now c.args.form.now.text.now c.args.form.now.line (c.args.left - 1) Expr c.in_ok-q.q) c.expr_form-in-Binary.ensures c.in_ok-p-in-Binary.was in
+    let o = later c.args.form.now.sheet.now _ _ _ _ (operator_ends c.args.form.now.sheet.now c.args.form.now.text.now c.args.form.now.line _ c.in_ok-p-in-Binary.p) c.operator_form-in-Binary.ensures c.in_ok-o-in-Binary.was in
     omega (arith, c.decreases, past.0, past.1, p, o)
 
-pub expr_form-expr_form-requires-in-6 : goal.expr_form-expr_form-requires-in-6
-expr_form-expr_form-requires-in-6 t c =
+pub expr_form-expr_form-requires-in-Unary : goal.expr_form-expr_form-requires-in-Unary
+expr_form-expr_form-requires-in-Unary t c =
     let past = past_own c.args.form.now.sheet.now c.args.form.now.text.now c.args.form.now.line c.args.at _ _ _ (sym c.head_form.ensures ∙ c.in_ok-h.was) (sym c.own_form.ensures ∙ c.in_ok-q.was) in
-    omega (arith, c.decreases, past.0, past.1, later c.args.form.now.sheet.now _ _ _ _ (operator_ends c.args.form.now.sheet.now c.args.form.now.text.now c.args.form.now.line _ c.in_ok-q.q) c.operator_form-in-6.ensures c.in_ok-p-in-6.was)
+    omega (arith, c.decreases, past.0, past.1, later c.args.form.now.sheet.now _ _ _ _ (operator_ends c.args.form.now.sheet.now c.args.form.now.text.now c.args.form.now.line _ c.in_ok-q.q) c.operator_form-in-Unary.ensures c.in_ok-p-in-Unary.was)
 
-pub expr_form-exprs_form-requires-in-7 : goal.expr_form-exprs_form-requires-in-7
-expr_form-exprs_form-requires-in-7 t c =
+pub expr_form-exprs_form-requires-in-Index : goal.expr_form-exprs_form-requires-in-Index
+expr_form-exprs_form-requires-in-Index t c =
     let past = past_own c.args.form.now.sheet.now c.args.form.now.text.now c.args.form.now.line c.args.at _ _ _ (sym c.head_form.ensures ∙ c.in_ok-h.was) (sym c.own_form.ensures ∙ c.in_ok-q.was) in
-    omega (arith, c.decreases, past.0, past.1, later c.args.form.now.sheet.now _ _ _ _ (absent_or c.args.form.now.sheet.now c.in_ok-q.q (name_form c.args.form.now.sheet.now c.args.form.now.text.now c.args.form.now.line) (name_ends c.args.form.now.sheet.now c.args.form.now.text.now c.args.form.now.line c.in_ok-q.q)) c.optional_name_form-in-7.ensures c.in_ok-p-in-7.was)
+    omega (arith, c.decreases, past.0, past.1, later c.args.form.now.sheet.now _ _ _ _ (absent_or c.args.form.now.sheet.now c.in_ok-q.q (name_form c.args.form.now.sheet.now c.args.form.now.text.now c.args.form.now.line) (name_ends c.args.form.now.sheet.now c.args.form.now.text.now c.args.form.now.line c.in_ok-q.q)) c.optional_name_form-in-Index.ensures c.in_ok-p-in-Index.was)

@@ -1,4 +1,4 @@
-use Rattle.std.proofs.Common.{◌≡◌, ◌+◌, ◌-◌, ◌≤◌, ◌∙◌, arith}
+use Rattle.std.proofs.Common.{◌≡◌, ◌+◌, ◌-◌, ◌≤◌, arith}
 use Rattle.sheet.specs.declared.form.Sort.TheVariants.{Expr, Stmt}
 use Rattle.walk.proofs.Cycle.{later, head_moves, repeat_step}
 use Rattle.walk.proofs.Steps.{word_ends, range_ends, node_ends, list_ends}

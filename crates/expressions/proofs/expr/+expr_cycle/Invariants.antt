@@ -1,4 +1,4 @@
-use Rattle.std.proofs.Common.{◌≡◌, ◌+◌, ◌-◌, ◌*◌, length}
+use Rattle.std.proofs.Common.{◌≡◌, ◌+◌, ◌-◌, ◌*◌}
 use Rattle.recorder.specs.Mem.{mem_r}
 use Rattle.sheet.specs.declared.form.Sort.TheVariants.{Expr as exprSort}
 use Rattle.sheet.specs.Skip.{skip_node, skip_repeat}

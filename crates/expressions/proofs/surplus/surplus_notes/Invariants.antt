@@ -1,4 +1,4 @@
-use Rattle.std.proofs.Common.{◌≡◌, ◌-◌, ℕ, List, length}
+use Rattle.std.proofs.Common.{◌≡◌, ◌-◌, ℕ, List}
 use Rattle.recorder.specs.Mem.{mem_r}
 use Rattle.sheet.specs.Tree.{args_at}
 use Rattle.rules.specs.Stmt.{surplus_notes}

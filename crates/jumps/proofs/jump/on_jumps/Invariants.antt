@@ -1,5 +1,5 @@
 use Rattle.recorder.specs.Word.{flag_of}
-use Rattle.std.proofs.Common.{◌≡◌, ◌-◌, ℕ, List, length}
+use Rattle.std.proofs.Common.{◌≡◌, ◌-◌, ℕ, List}
 use Rattle.recorder.specs.Mem.{mem_r}
 use Rattle.rules.specs.Stmt.{on_jumps}
 use Rattle.jumps.specs.Parts.{on_targets_at}

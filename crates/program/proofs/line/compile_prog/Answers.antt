@@ -4,7 +4,7 @@ use Rattle.program.proofs.LineLaws.{going_start, going_on, going_done}
 use Rattle.program.proofs.line.compile_prog.Goals as goal
 
 pub loop-line-init : goal.loop-line-init
-loop-line-init c = ((refl, refl, refl), refl, going_start _ c.args.text.now _ _ _ _ _ _ _ c.payload_at-count.ensures c.behind-at.ensures)
+loop-line-init c = ((refl, refl, refl), refl, going_start _ c.args.text.now _ _ _ _ c.payload_at-count.ensures c.behind-at.ensures)
 
 pub loop-line-preserved : goal.loop-line-preserved
 loop-line-preserved c = (

@@ -8,7 +8,7 @@ returns-then-to_ascii_uppercase c = units_stop _ _ _ _ _ _ _ _ _ (omega (arith, 
 pub loop-preserved : goal.loop-preserved
 loop-preserved c =
     let e : c.args.n - (c.loop.counter + 1) ≡ c.args.n - c.loop.counter - 1 = omega arith in
-    rw e (units_step _ _ _ _ _ _ _ _ _ _ _ (omega (arith, c.loop-test.true)) c.loop.invariant c.unit_at.ensures c.unit_at-in-loop.ensures c.to_ascii_uppercase.ensures c.to_ascii_uppercase-in-loop.ensures c.if-to_ascii_uppercase.false c.behind_unit-p.ensures c.behind_unit-q.ensures)
+    rw e (units_step _ _ _ _ _ _ _ _ _ _ _ (omega (arith, c.loop-test.true)) c.loop.invariant c.unit_at.ensures c.unit_at-in-loop.ensures c.to_ascii_uppercase.ensures c.to_ascii_uppercase-in-loop.ensures c.if-to_ascii_uppercase.false c.behind-p.ensures c.behind-q.ensures)
 
 pub returns : goal.returns
 returns c = units_end _ _ _ _ _ (omega (arith, c.loop-test.false)) c.loop.invariant

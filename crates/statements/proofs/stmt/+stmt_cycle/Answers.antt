@@ -1,5 +1,5 @@
 use borrow.Author.Rules.{rules}
-use Rattle.std.proofs.Common.{◌≡◌, ◌+◌, ◌-◌, ◌∙◌, arith}
+use Rattle.std.proofs.Common.{◌≡◌, ◌+◌, ◌-◌, arith}
 use Rattle.expressions.proofs.ExprLaws.{head}
 use Rattle.statements.proofs.StmtLaws.{stmt_zero, stmt_plain, stmt_if, if_then_lem, if_else_lem, more_place, more_stmts, no_more}
 use Rattle.statements.proofs.stmt.+stmt_cycle.Goals as goal

@@ -1,4 +1,4 @@
-use Rattle.std.proofs.Common.{◌∙◌, ap, ℕ}
+use Rattle.std.proofs.Common.{◌∙◌, ap}
 use Rattle.recorder.specs.Mem.{Mem, mem_r}
 use Rattle.rules.specs.Stmt.{end_here}
 use Rattle.statements.proofs.stmt.else_head.Goals as goal

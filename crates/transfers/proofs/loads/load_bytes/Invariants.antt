@@ -1,4 +1,4 @@
-use Rattle.std.proofs.Common.{◌≡◌, ◌-◌, List, ℕ}
+use Rattle.std.proofs.Common.{◌≡◌, ◌-◌}
 use Rattle.recorder.specs.Mem.{mem_r}
 use Rattle.sheet.specs.Tree.{args_at}
 use Rattle.rules.specs.Stmt.{load_bytes}

@@ -1,4 +1,4 @@
-use Rattle.std.proofs.Common.{◌≡◌, ◌∙◌, ap, List, get_or, arith}
+use Rattle.std.proofs.Common.{◌∙◌, ap, List, get_or, arith}
 use Rattle.sheet.specs.declared.form.Shape.{Shape}
 use Rattle.sheet.specs.declared.form.Shape.TheVariants.{NoOp}
 use Rattle.sheet.specs.Tree.{shape_of}

@@ -1,8 +1,10 @@
 use Rattle.std.proofs.Common.{◌≡◌, ◌+◌, ◌-◌, ◌≤◌, arith, rules}
-use Rattle.sheet.specs.Skip.{skip_pair, skip_node}
+use Rattle.recorder.specs.Word.{payload_at, next}
+use Rattle.sheet.specs.Skip.{skip_item, skip_pair, skip_node}
+use Rattle.sheet.proofs.Cases.{source_number, mark_number}
 use Rattle.walk.proofs.Cycle.{next_inside}
 use Rattle.walk.proofs.Steps.{to_next}
-use Rattle.walk.proofs.Skips.{item_skips, pair_skips, field_skips, node_skips, node_none, node_end, repeat_step, fields_step}
+use Rattle.walk.proofs.Skips.{item_skips, pair_skips, field_skips, node_skips, over_file, over_mark, node_none, node_end, repeat_step, fields_step}
 use Rattle.walk.proofs.stmt.+skip_cycle.Goals.{skip_node-then-left-eq0-via-then-left-eq0, skip_node-then-left-eq0-via-else-left-eq0+then-sheet-at}
 use Rattle.walk.proofs.stmt.+skip_cycle.Goals as goal
 
@@ -49,3 +51,15 @@ skip_pair-skip_item-requires t c =
 
 pub skip_source-skip_node-requires : goal.skip_source-skip_node-requires
 skip_source-skip_node-requires t c = let h = to_next c.args.sheet.now c.args.at in omega (arith, c.decreases, c.behind-p.ensures, h.later)
+
+pub skip_element-returns-in-Comma : goal.skip_element-returns-in-Comma
+unfolding skip_item
+skip_element-returns-in-Comma t c =
+    let n = rw c.payload_at.ensures at (mark_number _ _ c.of.ensures c.in-Comma.is) in
+    rw (over_mark c.args.sheet.now (skip_node c.args.sheet.now c.args.left) (payload_at c.args.sheet.now c.args.at) (next c.args.sheet.now c.args.at) n, c.behind.ensures, c.behind-p.ensures)
+
+pub skip_source-returns-in-File : goal.skip_source-returns-in-File
+unfolding skip_item
+skip_source-returns-in-File t c =
+    let n = rw c.payload_at.ensures at (source_number _ _ c.in-File.ensures) in
+    rw (over_file c.args.sheet.now (skip_node c.args.sheet.now c.args.left) (payload_at c.args.sheet.now c.args.at) (next c.args.sheet.now c.args.at) n, c.skip_node.ensures, c.behind-p.ensures)

@@ -1,7 +1,12 @@
-use Rattle.std.proofs.Common.{sym, arith}
-use Rattle.rules.proofs.TableLaws.{sig_other}
+use Rattle.std.proofs.Common.{◌∙◌, sym, ap, List, get_or, arith}
+use Rattle.std.proofs.Math.ListN.{get_or-map}
+use Rattle.rules.specs.declared.tables.Sig.TheVariants.{RealOfReal}
+use Rattle.rules.specs.Tables.{Signature, signature_for, signature_of, real_of_real}
 use Rattle.rules.proofs.tables.Sig.of_function.Goals as goal
 
-pub returns-in_default-3 : goal.returns-in_default-3
-returns-in_default-3 c =
-    sym (sig_other c.args.k (λ e. grind arith) (λ e. grind arith) (λ e. omega arith) (λ e. omega arith) (λ e. grind arith) (λ e. grind arith) (λ e. omega arith) (λ e. omega arith) (λ e. omega arith) (λ e. grind arith) (λ e. grind arith) (λ e. grind arith) (λ e. omega arith))
+pub returns : goal.returns
+unfolding signature_of
+returns c =
+    let h = c.get.ensures.lookup in
+    rw (c.unwrap_or.ensures, c.copied.ensures, h.4 (omega arith) RealOfReal)
+    (sym (get_or-map signature_for c.sigs.result.now c.args.k RealOfReal) ∙ ap (λ (l : List Signature). get_or l c.args.k real_of_real) c.sigs.ensures)
