@@ -6,7 +6,7 @@ use Rattle.sheet.specs.declared.form.Sort.{Sort}
 use Rattle.sheet.specs.declared.form.Times.TheVariants.{NonEmpty}
 use Rattle.sheet.specs.Walk.{Walk}
 use Rattle.sheet.specs.Form.{item_form, pair_form, list_form, times_form, field_form, fields_form, node_form}
-use Rattle.walk.specs.declared.stmt.LineForm.{LineForm}
+use Rattle.sheet.specs.declared.form.LineForm.{LineForm}
 
 module _ (f : LineForm) (left : ℕ) where
   abbrev pub node_in : Sort → ℕ → Walk

@@ -5,11 +5,8 @@ ghost use Rattle.accept_exprs.specs.Read.{node_in, field_in};
 
 use crate::leaf::{operator_form, own_form};
 use recorder::word::payload_at;
-use sheet::form::{ExprKind, Offence, Sort, Walk, may_stand};
-use sheet::leaf::{
-    absent_form, head_form, is_absent, non_empty_form, number_form, optional_name_form,
-};
-use walk::stmt::LineForm;
+use sheet::form::{ExprKind, LineForm, Offence, Sort, Walk, may_stand};
+use sheet::leaf::{absent_form, head_form, is_absent, non_empty_form, number_form};
 
 // A count of at least one, and so many expressions.
 #[inline(always)]
@@ -40,24 +37,24 @@ pub fn expr_form(form: &LineForm, left: usize, at: usize) -> Walk
     match ExprKind::of(k) {
         ExprKind::NumberLit => number_form(form.sheet, q),
         ExprKind::SysFuncCall => {
-            let p = operator_form(form.sheet, form.line, 34, q)?;
+            let p = operator_form(form, 34, q)?;
             exprs_form(form, left - 1, p)
         }
         ExprKind::UserFuncCall => {
-            let p = optional_name_form(form.sheet, form.text, form.line, q)?;
+            let p = form.optional_name_form(q)?;
             expr_form(form, left - 1, p)
         }
         ExprKind::Binary => {
             let p = expr_form(form, left - 1, q)?;
-            let o = operator_form(form.sheet, form.line, 13, p)?;
+            let o = operator_form(form, 13, p)?;
             expr_form(form, left - 1, o)
         }
         ExprKind::Unary => {
-            let p = operator_form(form.sheet, form.line, 3, q)?;
+            let p = operator_form(form, 3, q)?;
             expr_form(form, left - 1, p)
         }
         ExprKind::Index => {
-            let p = optional_name_form(form.sheet, form.text, form.line, q)?;
+            let p = form.optional_name_form(q)?;
             exprs_form(form, left - 1, p)
         }
         _ => Ok(q),

@@ -5,17 +5,16 @@ ghost use Rattle.sheet.specs.Table.{own_range};
 ghost use Rattle.sheet.specs.Form.{then, take_word, range_form};
 ghost use Rattle.accept_exprs.specs.Read.{item_in};
 
-use sheet::form::{ExprKind, Kind, Line, Walk};
-use sheet::leaf::{name_form, range_form, take_word, text_form};
-use walk::stmt::LineForm;
+use sheet::form::{ExprKind, Kind, LineForm, Walk};
+use sheet::leaf::take_word;
 
 // The range of a function or an operator, and its place among n.
 #[inline(always)]
-pub fn operator_form(sheet: &[u32], line: Line, n: u32, at: usize) -> Walk
-    ensures { result ≡ then (range_form sheet.now line at) (λ p. take_word sheet.now 9 n p) }
+pub fn operator_form(form: &LineForm, n: u32, at: usize) -> Walk
+    ensures { result ≡ then (range_form form.now.sheet.now form.now.line at) (λ p. take_word form.now.sheet.now 9 n p) }
 {
-    let p = range_form(sheet, line, at)?;
-    take_word(sheet, Kind::Place, n, p)
+    let p = form.range_form(at)?;
+    take_word(form.sheet, Kind::Place, n, p)
 }
 
 // An expression's own range: a name, a text, or neither.
@@ -25,8 +24,8 @@ pub fn own_form(form: &LineForm, k: u32, at: usize) -> Walk
     ensures { result ≡ item_in form.now 0 (own_range Expr k) at }
 {
     match ExprKind::of(k) {
-        ExprKind::Ident => name_form(form.sheet, form.text, form.line, at),
-        ExprKind::StringLit => text_form(form.sheet, form.line, at),
-        _ => range_form(form.sheet, form.line, at),
+        ExprKind::Ident => form.name_form(at),
+        ExprKind::StringLit => form.text_form(at),
+        _ => form.range_form(at),
     }
 }

@@ -9,12 +9,8 @@ ghost use Rattle.accept_exprs.specs.Read.{item_in, field_in, fields_in};
 use crate::list::{list_form, some_form};
 use accept_exprs::expr::{expr_form, exprs_form, optional_expr_form, place_form};
 use recorder::word::payload_at;
-use sheet::form::{ElementKind, Kind, Shape, Sort, SourceKind, Walk};
-use sheet::leaf::{
-    absent_form, datum_form, is_absent, label_form, optional_label_form, optional_name_form,
-    range_form, take_word, text_form,
-};
-use walk::stmt::LineForm;
+use sheet::form::{ElementKind, Kind, LineForm, Shape, Sort, SourceKind, Walk};
+use sheet::leaf::{absent_form, is_absent, optional_label_form, take_word};
 
 // GET, PUT, POKE, FPUTC: two expressions.
 #[tactic(auto, unfolding(sheet::specs::Form::fields_form, sheet::specs::Form::field_form, sheet::specs::Form::times_form, sheet::specs::Form::pair_form, sheet::specs::Form::item_form), using(accept_exprs::proofs::Fields::one_is, accept_exprs::proofs::Fields::last_is, walk::proofs::Lines::then_behind, walk::proofs::Lines::alone))]
@@ -57,8 +53,8 @@ fn swap_form(form: &LineForm, left: usize, at: usize) -> Walk
 fn def_form(form: &LineForm, left: usize, at: usize) -> Walk
     ensures { result ≡ fields_in form.now left (shape_fields Def) at }
 {
-    let p = optional_name_form(form.sheet, form.text, form.line, at)?;
-    let q = optional_name_form(form.sheet, form.text, form.line, p)?;
+    let p = form.optional_name_form(at)?;
+    let q = form.optional_name_form(p)?;
     expr_form(form, left, q)
 }
 
@@ -79,7 +75,7 @@ fn field_form(form: &LineForm, left: usize, at: usize) -> Walk
 fn for_form(form: &LineForm, left: usize, at: usize) -> Walk
     ensures { result ≡ fields_in form.now left (shape_fields For) at }
 {
-    let p = optional_name_form(form.sheet, form.text, form.line, at)?;
+    let p = form.optional_name_form(at)?;
     let q = expr_form(form, left, p)?;
     let e = expr_form(form, left, q)?;
     optional_expr_form(form, left, e)
@@ -91,7 +87,7 @@ fn goto_form(form: &LineForm, left: usize, at: usize) -> Walk
     ensures { result ≡ fields_in form.now left (shape_fields GoTo) at }
 {
     let p = take_word(form.sheet, Kind::Flag, 2, at)?;
-    label_form(form.sheet, form.line, p)
+    form.label_form(p)
 }
 
 // INPUT's source: the keyboard, the keyboard and a prompt, or a file.
@@ -102,7 +98,7 @@ fn source_form(form: &LineForm, left: usize, at: usize) -> Walk
     let p = take_word(form.sheet, Kind::Source, 3, at)?;
     match SourceKind::of(payload_at(form.sheet, at)) {
         SourceKind::Keyboard => Ok(p),
-        SourceKind::KeyboardWithPrompt => text_form(form.sheet, form.line, p),
+        SourceKind::KeyboardWithPrompt => form.text_form(p),
         SourceKind::File => expr_form(form, left, p),
     }
 }
@@ -132,7 +128,7 @@ fn on_form(form: &LineForm, left: usize, at: usize) -> Walk
 {
     let p = expr_form(form, left, at)?;
     let q = some_form(form, p, |t| {
-        let l = range_form(form.sheet, form.line, t)?;
+        let l = form.range_form(t)?;
         optional_label_form(form.sheet, l)
     })?;
     take_word(form.sheet, Kind::Flag, 2, q)
@@ -146,7 +142,7 @@ fn len_form(form: &LineForm, left: usize, at: usize) -> Walk
     if is_absent(form.sheet, at) {
         return absent_form(form.sheet, at);
     }
-    let p = range_form(form.sheet, form.line, at)?;
+    let p = form.range_form(at)?;
     expr_form(form, left, p)
 }
 
@@ -169,7 +165,7 @@ fn element_form(form: &LineForm, left: usize, at: usize) -> Walk
     let p = take_word(form.sheet, Kind::Element, 3, at)?;
     match ElementKind::of(payload_at(form.sheet, at)) {
         ElementKind::Expr => expr_form(form, left, p),
-        ElementKind::Comma | ElementKind::Semicolon => range_form(form.sheet, form.line, p),
+        ElementKind::Comma | ElementKind::Semicolon => form.range_form(p),
     }
 }
 
@@ -193,23 +189,21 @@ pub fn plain_form(form: &LineForm, left: usize, s: Shape, at: usize) -> Walk
 {
     match s {
         Shape::NoOp | Shape::Op0 | Shape::System => Ok(at),
-        Shape::Rem | Shape::Run => range_form(form.sheet, form.line, at),
+        Shape::Rem | Shape::Run => form.range_form(at),
         Shape::Op1 | Shape::While | Shape::If => expr_form(form, left, at),
         Shape::Op2 => two_form(form, left, at),
         Shape::Op3 => three_form(form, left, at),
         Shape::Draw | Shape::Dim | Shape::Load => exprs_form(form, left, at),
         Shape::Set | Shape::Let => set_form(form, left, at),
-        Shape::Data => some_form(form, at, |q| datum_form(form.sheet, form.line, q)),
+        Shape::Data => some_form(form, at, |q| form.datum_form(q)),
         Shape::Def => def_form(form, left, at),
         Shape::Field => field_form(form, left, at),
         Shape::For => for_form(form, left, at),
-        Shape::GoSub | Shape::Restore => label_form(form.sheet, form.line, at),
+        Shape::GoSub | Shape::Restore => form.label_form(at),
         Shape::GoTo => goto_form(form, left, at),
         Shape::Input => input_form(form, left, at),
         Shape::Locate => locate_form(form, left, at),
-        Shape::Next => list_form(form, at, |q| {
-            optional_name_form(form.sheet, form.text, form.line, q)
-        }),
+        Shape::Next => list_form(form, at, |q| { form.optional_name_form(q) }),
         Shape::On => on_form(form, left, at),
         Shape::Open => open_form(form, left, at),
         Shape::Print => list_form(form, at, |q| element_form(form, left, q)),

@@ -7,9 +7,8 @@ ghost use Rattle.accept_exprs.specs.Read.{list_in, some_in};
 ghost use Rattle.accept_fields.specs.Counted.{Reads};
 
 use recorder::word::payload_at;
-use sheet::form::{Kind, Walk};
+use sheet::form::{Kind, LineForm, Walk};
 use sheet::leaf::{non_empty_form, take_word};
-use walk::stmt::LineForm;
 
 // A count, and so many.
 #[tactic(auto, unfolding(sheet::specs::Form::list_form, sheet::specs::Form::repeat_form))]

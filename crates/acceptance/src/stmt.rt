@@ -8,10 +8,10 @@ ghost use Rattle.accept_exprs.specs.Read.{node_in, list_in, fields_in};
 use accept_exprs::expr::expr_form;
 use accept_fields::field::plain_form;
 use recorder::word::payload_at;
-use sheet::form::{Kind, Line, Offence, Shape, Sort, Walk, is_fseek};
-use sheet::leaf::{absent_form, head_form, is_absent, label_form, range_form, take_word};
+use sheet::form::{Kind, Line, LineForm, Offence, Shape, Sort, Walk, is_fseek};
+use sheet::leaf::{absent_form, head_form, is_absent, take_word};
 use walk::shape::shape_of;
-use walk::stmt::{LineForm, end_form, line_head};
+use walk::stmt::{end_form, line_head};
 
 // IF: its condition, its branches.
 #[cycle(form_cycle)]
@@ -42,7 +42,7 @@ fn stmt_form(form: &LineForm, left: usize, at: usize) -> Walk
     if is_fseek(Sort::Stmt, k) {
         return Err(Offence::Fseek(at));
     }
-    let q = range_form(form.sheet, form.line, h)?;
+    let q = form.range_form(h)?;
     match shape_of(k) {
         Shape::If => if_form(form, left - 1, q),
         s => plain_form(form, left - 1, s, q),
@@ -69,9 +69,13 @@ fn line_form(sheet: &[u32], text: &[u16], base: usize, at: usize) -> Walk
 {
     let p = line_head(sheet, text, base, at)?;
     let len = payload_at(sheet, at) as usize;
-    let line = Line { base, len };
-    let q = label_form(sheet, line, p)?;
-    stmts_form(&LineForm { sheet, text, line }, 64, q)
+    let form = LineForm {
+        sheet,
+        text,
+        line: Line { base, len },
+    };
+    let q = form.label_form(p)?;
+    stmts_form(&form, 64, q)
 }
 
 #[tactic(auto, unfolding(sheet::specs::Form::lines_form))]

@@ -40,6 +40,7 @@ fn is_call(list: &[u32], k: u32, call: u8) -> bool
     call_of(list, k) == u32::from(call)
 }
 
+// The arguments a and b, by the names that document 01's sentences need.
 fn a_of(list: &[u32], k: u32) -> u32
     ensures { result ≡ (rec_of list.now k).a }
 {

@@ -33,7 +33,7 @@ fn datum_length(src: &Source, r: Range, quoted: u32) -> u32
     }
 }
 
-// A datum, and a note where it is above 255.
+// A datum, and a note where it is above 255. `quoted` is a word of the sheet and goes into the book as it stands, so it is no bool.
 #[tactic(auto, unfolding(rules::specs::Stmt::datum_node))]
 fn datum_node(src: &Source, code: &mut CodeGen, r: Range, quoted: u32)
     ensures same { SameLoans code.old code.new }

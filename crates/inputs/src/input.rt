@@ -140,6 +140,7 @@ fn input_source(src: &Source, code: &mut CodeGen, at: usize, left: usize, r: Ran
     }
 }
 
+// Two of the three sources are the keyboard.
 #[tactic(auto, using(crate::proofs::InputLaws::third))]
 fn is_file(sheet: &[u32], at: usize) -> bool
     ensures { (left : ℕ) (child : ℕ → Stmt) → result ≡ is_file (source_of sheet.now left child (payload_at sheet.now at) (next sheet.now at)) }

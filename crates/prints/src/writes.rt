@@ -16,10 +16,10 @@ use rules::types::Type;
 use sheet::form::Shape;
 
 // Whether a value is written: the last one, and one with a comma behind it. `more` counts it and those behind it.
-fn is_kept(more: u32, comma: u32) -> bool
-    ensures { result ≡ either (eqb more 1) (eqb comma 1) }
+fn is_kept(more: u32, comma: bool) -> bool
+    ensures { result ≡ either (eqb more 1) comma }
 {
-    more == 1 || comma == 1
+    more == 1 || comma
 }
 
 // A value that is written: call 44 or 45.
@@ -46,12 +46,12 @@ fn dropped_call(code: &mut CodeGen, r: Range, ty: Type)
     }
 }
 
-// What follows a value's expression.
+// What follows a value's expression. `comma` is the word of the sheet, as the rule has it.
 fn write_value(code: &mut CodeGen, file: bool, more: u32, comma: u32, r: Range, ty: Type)
     ensures same { SameLoans code.old code.new }
     ensures value { (t : List ℕ) (base : ℕ) (e : Expr) → r ≡ expr_range e → mem_of code.new ≡ write_value (mem_r t) t base (flag_of file) (element e comma) (eqb more 1) ty (mem_of code.old) }
 {
-    if is_kept(more, comma) {
+    if is_kept(more, comma == 1) {
         kept_call(code, r, file, more == 1, ty)
     } else {
         code.note(Class::ValueDropped, r);

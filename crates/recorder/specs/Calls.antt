@@ -11,7 +11,8 @@ use Rattle.recorder.specs.Recorder.{unknown}
 abbrev pub row : ℕ → ℕ → ℕ → ℕ → Numbers
 row k a b c = record { call = k; a = a; b = b; c = c }
 
--- "Each numbered call below appends one record of five words: call number ..., three arguments (0 where unused)."
+-- "Each numbered call below appends one record of five words: call number ..., three arguments (0 where unused)." A waiting label and
+-- NEXT's symbol stand here plus 1.
 abbrev pub numbers_of : Call → Numbers
 numbers_of NoOp = row 1 0 0 0
 numbers_of (Op statement count) = row 2 statement count 0

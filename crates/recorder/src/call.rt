@@ -28,7 +28,7 @@ pub const WHILE: u8 = 25;
 pub const RESTORE: u8 = 31;
 
 // A call and what it says; `numbers` names each part. A jump or a RESTORE that waits for its label keeps the label plus 1 and the
-// packed range of a note; an IF's jump, and a RESTORE without a label, 0 and 0.
+// packed range of a note; an IF's jump, and a RESTORE without a label, 0 and 0. NEXT's symbol is plus 1, or 0.
 #[derive(Clone, Copy)]
 pub enum Call {
     NoOp,

@@ -79,7 +79,8 @@ impl State {
     }
 }
 
-// The buffers that are compiled into, and what is in them.
+// The buffers that are compiled into, and what is in them: lent memory of fixed lengths, filled from the front, so the counts are the
+// state's.
 #[derive(Drop)]
 pub struct CodeGen<'a> {
     pub list: &'a mut [u32],
@@ -88,7 +89,8 @@ pub struct CodeGen<'a> {
     pub st: State,
 }
 
-// A name: where its units start in the text, how many they are before its sigil, and the sigil's unit or 0.
+// A name: where its units start in the text, how many they are before its sigil, and the sigil's unit or 0. A start and a length as
+// the words of a book's entry have them; a slice of the text would not say where it lies.
 #[derive(Clone, Copy)]
 pub struct Name {
     pub start: u32,
@@ -672,7 +674,7 @@ impl CodeGen<'_> {
         Addr((self.st.records % 4294967296) as u32)
     }
 
-    // A word of the record at an address, which becomes known.
+    // A word of the record at an address: the target, now known.
     #[tactic(auto, unfolding(crate::specs::Mem::on_rec, crate::specs::Mem::at_rec, crate::specs::Mem::part))]
     fn patch(&mut self, at: Addr, i: usize, target: Addr)
         ensures same { SameLoans self.old self.new }
@@ -687,7 +689,7 @@ impl CodeGen<'_> {
         }
     }
 
-    // A jump's target: argument a of the record at an address.
+    // A jump's target: argument a of the record at an address. This one and the next are two names of the Rust for `patch`.
     pub fn patch_jump_addr(&mut self, at: Addr, target: Addr)
         ensures same { SameLoans self.old self.new }
         ensures value { mem_of self.new ≡ patched (set_a target.0) (mem_of self.old) at.0 }

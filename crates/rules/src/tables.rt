@@ -113,8 +113,8 @@ impl Sig {
         sigs().get(k as usize).copied().unwrap_or(Sig::RealOfReal)
     }
 
-    // What each of the six signatures is, in three matches; as structs they would be six constants of three fields.
-    // How many arguments a function wants at least, and at most.
+    // How many arguments a function wants at least, and at most, and below what it gives: three matches over six signatures; as structs
+    // they would be six constants of three fields.
     pub fn min_args(self) -> u32
         ensures { result ≡ (signature_for self).min }
     {

@@ -25,7 +25,7 @@ impl Type {
     }
 
     // Whether a value of one kind may stand where the other is wanted: an error anywhere, a number where a number is, a text
-    // where a text is.
+    // where a text is. It is no equality, so it is not derived.
     pub fn matches(self, want: Type) -> bool
         ensures { result ≡ matches_type self want }
     {

@@ -170,6 +170,14 @@ pub struct Line {
     pub len: usize,
 }
 
+// A line of a sheet that is being read: the sheet's words, the text, and where the line's units lie in it.
+#[derive(Clone, Copy)]
+pub struct LineForm<'a> {
+    pub sheet: &'a [u32],
+    pub text: &'a [u16],
+    pub line: Line,
+}
+
 // The fields that statements and expressions are made of.
 const EXPR: Field = Field {
     times: Times::Once,
@@ -420,7 +428,7 @@ pub fn shape_fields(s: Shape) -> &'static [Field]
     }
 }
 
-// The kind of the first word of what may stand at a place.
+// The kind of the first word of what may stand at a place. Three sorts have one kind, so it is no conversion back and forth.
 pub fn node_kind(c: Sort) -> Kind
     ensures { kind_number result ≡ node_kind c }
 {
@@ -455,7 +463,7 @@ pub fn may_stand(c: Sort, k: u32) -> bool
     }
 }
 
-// What a node's own range is.
+// What a node's own range is: by sort and case, so it is no From of either.
 #[tactic(auto, using(crate::proofs::Cases::range_rule))]
 pub fn own_range(c: Sort, k: u32) -> Item
     ensures { result ≡ own_range c k }
@@ -475,7 +483,7 @@ pub fn is_fseek(c: Sort, k: u32) -> bool
 }
 
 impl Offence {
-    // Document 01's number of an offence.
+    // Document 01's number of an offence, which is no discriminant: an offence holds its place.
     pub fn number(self) -> u32
         ensures { result ≡ offence_number self }
     {
@@ -510,7 +518,7 @@ impl From<Offence> for Refusal {
 }
 
 impl Refusal {
-    // Document 01's number of a refusal.
+    // Document 01's number of a refusal, which is no discriminant: the offences are among them.
     pub fn number(self) -> u32
         ensures { result ≡ refusal_number self }
     {

@@ -5,7 +5,7 @@ ghost use Rattle.recorder.specs.Word.{choose};
 ghost use Rattle.sheet.specs.Table.{kind_number};
 ghost use Rattle.sheet.specs.Form.{is_letter, is_alnum, is_inner, is_last, name_tail, is_name, is_absent, has_unit, in_line, take_word, absent_form, non_empty_form, half_form, number_form, head_form, range_form, text_form, name_form, datum_form, label_form, high_fits, low_fits, lacks_unit};
 
-use crate::form::{Kind, Line, Offence, Sort, Walk};
+use crate::form::{Kind, Line, LineForm, Offence, Sort, Walk};
 use recorder::unit::{BLANK, DOLLAR, LOWER_A, LOWER_Z, NINE, PERCENT, UPPER_A, UPPER_Z, ZERO};
 use recorder::word::{Range, behind, kind_at, payload_at, range_at, unit_at};
 
@@ -177,56 +177,6 @@ pub fn head_form(sheet: &[u32], c: Sort, at: usize) -> Walk
     }
 }
 
-#[inline(always)]
-#[tactic(auto, unfolding(crate::specs::Form::range_form))]
-pub fn range_form(sheet: &[u32], line: Line, at: usize) -> Walk
-    ensures { result ≡ range_form sheet.now line at }
-{
-    let p = take_word(sheet, Kind::Range, 16777216, at)?;
-    if in_line(line, range_at(sheet, at)) {
-        Ok(p)
-    } else {
-        Err(Offence::BadRange(at))
-    }
-}
-
-// A range with a unit.
-#[tactic(auto, unfolding(crate::specs::Form::text_form))]
-pub fn text_form(sheet: &[u32], line: Line, at: usize) -> Walk
-    ensures { result ≡ text_form sheet.now line at }
-{
-    let p = range_form(sheet, line, at)?;
-    if has_unit(range_at(sheet, at)) {
-        Ok(p)
-    } else {
-        Err(Offence::BadRange(at))
-    }
-}
-
-#[inline(always)]
-#[tactic(auto, unfolding(crate::specs::Form::name_form))]
-pub fn name_form(sheet: &[u32], text: &[u16], line: Line, at: usize) -> Walk
-    ensures { result ≡ name_form sheet.now text.now line at }
-{
-    let p = range_form(sheet, line, at)?;
-    if is_name_range(text, line, range_at(sheet, at)) {
-        Ok(p)
-    } else {
-        Err(Offence::BadRange(at))
-    }
-}
-
-#[inline(always)]
-pub fn optional_name_form(sheet: &[u32], text: &[u16], line: Line, at: usize) -> Walk
-    ensures { result ≡ choose (is_absent sheet.now at) (absent_form sheet.now) (name_form sheet.now text.now line) at }
-{
-    if is_absent(sheet, at) {
-        absent_form(sheet, at)
-    } else {
-        name_form(sheet, text, line, at)
-    }
-}
-
 pub fn optional_label_form(sheet: &[u32], at: usize) -> Walk
     ensures { result ≡ choose (is_absent sheet.now at) (absent_form sheet.now) (take_word sheet.now 3 65536) at }
 {
@@ -237,35 +187,88 @@ pub fn optional_label_form(sheet: &[u32], at: usize) -> Walk
     }
 }
 
-// Whether a datum says that it is quoted, and its range has no unit.
+// Whether a datum says that it is quoted, by the word as it stands, and its range has no unit.
 fn lacks_unit(quoted: u32, r: Range) -> bool
     ensures { result ≡ lacks_unit quoted r }
 {
     quoted == 1 && !has_unit(r)
 }
 
-// A datum: its range, and whether it is quoted.
-#[tactic(auto, unfolding(crate::specs::Form::datum_form))]
-pub fn datum_form(sheet: &[u32], line: Line, at: usize) -> Walk
-    ensures { result ≡ datum_form sheet.now line at }
-{
-    let p = range_form(sheet, line, at)?;
-    let q = take_word(sheet, Kind::Flag, 2, p)?;
-    if lacks_unit(payload_at(sheet, p), range_at(sheet, at)) {
-        Err(Offence::BadRange(at))
-    } else {
-        Ok(q)
+// What stands in a line, by its range.
+impl LineForm<'_> {
+    #[inline(always)]
+    #[tactic(auto, unfolding(crate::specs::Form::range_form))]
+    pub fn range_form(&self, at: usize) -> Walk
+        ensures { result ≡ range_form self.now.sheet.now self.now.line at }
+    {
+        let p = take_word(self.sheet, Kind::Range, 16777216, at)?;
+        if in_line(self.line, range_at(self.sheet, at)) {
+            Ok(p)
+        } else {
+            Err(Offence::BadRange(at))
+        }
     }
-}
 
-// A line's label: absent, or range and label.
-#[tactic(auto, unfolding(crate::specs::Form::label_form))]
-pub fn label_form(sheet: &[u32], line: Line, at: usize) -> Walk
-    ensures { result ≡ label_form sheet.now line at }
-{
-    if is_absent(sheet, at) {
-        return absent_form(sheet, at);
+    // A range with a unit.
+    #[tactic(auto, unfolding(crate::specs::Form::text_form))]
+    pub fn text_form(&self, at: usize) -> Walk
+        ensures { result ≡ text_form self.now.sheet.now self.now.line at }
+    {
+        let p = self.range_form(at)?;
+        if has_unit(range_at(self.sheet, at)) {
+            Ok(p)
+        } else {
+            Err(Offence::BadRange(at))
+        }
     }
-    let p = range_form(sheet, line, at)?;
-    take_word(sheet, Kind::Label, 65536, p)
+
+    #[inline(always)]
+    #[tactic(auto, unfolding(crate::specs::Form::name_form))]
+    pub fn name_form(&self, at: usize) -> Walk
+        ensures { result ≡ name_form self.now.sheet.now self.now.text.now self.now.line at }
+    {
+        let p = self.range_form(at)?;
+        if is_name_range(self.text, self.line, range_at(self.sheet, at)) {
+            Ok(p)
+        } else {
+            Err(Offence::BadRange(at))
+        }
+    }
+
+    #[inline(always)]
+    pub fn optional_name_form(&self, at: usize) -> Walk
+        ensures { result ≡ choose (is_absent self.now.sheet.now at) (absent_form self.now.sheet.now) (name_form self.now.sheet.now self.now.text.now self.now.line) at }
+    {
+        if is_absent(self.sheet, at) {
+            absent_form(self.sheet, at)
+        } else {
+            self.name_form(at)
+        }
+    }
+
+    // A datum: its range, and whether it is quoted.
+    #[tactic(auto, unfolding(crate::specs::Form::datum_form))]
+    pub fn datum_form(&self, at: usize) -> Walk
+        ensures { result ≡ datum_form self.now.sheet.now self.now.line at }
+    {
+        let p = self.range_form(at)?;
+        let q = take_word(self.sheet, Kind::Flag, 2, p)?;
+        if lacks_unit(payload_at(self.sheet, p), range_at(self.sheet, at)) {
+            Err(Offence::BadRange(at))
+        } else {
+            Ok(q)
+        }
+    }
+
+    // A line's label: absent, or range and label.
+    #[tactic(auto, unfolding(crate::specs::Form::label_form))]
+    pub fn label_form(&self, at: usize) -> Walk
+        ensures { result ≡ label_form self.now.sheet.now self.now.line at }
+    {
+        if is_absent(self.sheet, at) {
+            return absent_form(self.sheet, at);
+        }
+        let p = self.range_form(at)?;
+        take_word(self.sheet, Kind::Label, 65536, p)
+    }
 }

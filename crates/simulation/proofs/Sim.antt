@@ -527,7 +527,7 @@ unlinked_exact t size is b st s = record {
       ap (λ (z : ℕ). unlink_from b 0 z) m ∙ unlink_all size w.qs b w.words_are ∙ ap (λ (z : List Entry). fill size (words_of entry_words z)) w.bare_are;
 }
 
--- The whole memory: its numbers are those of some State.
+-- The whole memory.
 pub record Sim (t : List ℕ) (L N B : ℕ) (i : Ideal) (m : Mem) : Type 0 where
   pub st : State
   pub is : m.st ≡ st

@@ -193,7 +193,7 @@ run_unknown (r ∷ rs) ps ws k u n b f =
     let q = both_parts (fresh_rec r) (all_fresh rs) f in
     run_unknown rs (step_p ps ws k r) (step_w ws k r) (suc k) (unknown_step ps ws k r rs u n b q.0 (is_while r) refl (is_wend r) refl) (step_length ps ws k r ∙ ap suc n) (below_step ws k r b) q.1
 
--- the notes, and the numbers: those of the notes, and the rest of State
+-- the notes, and of the state their count and their flag; the rest of it stays
 pub record Noted (N : ℕ) (is : List Note) (s : State) (P : Passed) : Type 0 where
   pub many : ℕ
   pub full : Bool

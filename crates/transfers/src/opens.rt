@@ -13,7 +13,7 @@ use recorder::word::Range;
 use rules::types::Type;
 use sheet::form::Shape;
 
-// LEN with a mode that is neither Error nor Random.
+// LEN with a mode that is neither Error nor Random. A mode goes into the record as it stands in the sheet, so it is no enum.
 fn len_note(code: &mut CodeGen, mode: u32, r: Range)
     ensures same { SameLoans code.old code.new }
     ensures value { (t : List ℕ) (base : ℕ) → mem_of code.new ≡ len_notes (mem_r t) t base mode r (mem_of code.old) }

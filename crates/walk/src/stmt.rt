@@ -6,16 +6,8 @@ ghost use Rattle.sheet.specs.Form.{line_head, end_form};
 ghost use Rattle.sheet.specs.Skip.{skip_item, skip_pair, skip_list, skip_field, skip_fields, skip_node};
 
 use recorder::word::{behind, payload_at};
-use sheet::form::{ElementKind, Field, Item, Kind, Line, Offence, Sort, SourceKind, Times, Walk};
+use sheet::form::{ElementKind, Field, Item, Kind, Offence, Sort, SourceKind, Times, Walk};
 use sheet::leaf::{is_absent, take_word};
-
-// A line of a sheet that is being read: the sheet's words, the text, and where the line's units lie in it.
-#[derive(Clone, Copy)]
-pub struct LineForm<'a> {
-    pub sheet: &'a [u32],
-    pub text: &'a [u16],
-    pub line: Line,
-}
 
 // Whether n units more than base are at most so many.
 fn fits(base: usize, n: usize, len: usize) -> bool
@@ -76,6 +68,7 @@ fn skip_element(sheet: &[u32], left: usize, at: usize) -> usize
     }
 }
 
+// The arms' functions take parameters of their own; a table of function pointers would lose which one is called.
 #[cycle(skip_cycle)]
 #[tactic(auto, unfolding(sheet::specs::Skip::skip_item))]
 fn skip_item(sheet: &[u32], left: usize, item: Item, at: usize) -> usize
