@@ -1,4 +1,5 @@
 // The form of expressions, walked directly; the table of the form is the definition that the functions follow.
+// left falls at each node and at is what the call before gave, so neither is in form: it would be made anew for each call.
 ghost use Rattle.std.specs.Prelude.{◌≡◌};
 ghost use Rattle.sheet.specs.Table.{node_kind, expr, non_empty, optional};
 ghost use Rattle.accept_exprs.specs.Read.{node_in, field_in};
@@ -8,7 +9,8 @@ use recorder::word::payload_at;
 use sheet::form::{ExprKind, LineForm, Offence, Sort, Walk, may_stand};
 use sheet::leaf::{absent_form, head_form, is_absent, non_empty_form, number_form};
 
-// A count of at least one, and so many expressions.
+// A count of at least one, and so many expressions. A loop of its own beside accept_fields' some_form: the cycle ends since each part
+// stands behind the one before, which a closure would not be told.
 #[inline(always)]
 #[cycle(form_cycle)]
 #[tactic(auto, unfolding(sheet::specs::Form::field_form, sheet::specs::Form::times_form, sheet::specs::Form::list_form, sheet::specs::Form::repeat_form, sheet::specs::Form::pair_form, sheet::specs::Form::item_form), using(walk::proofs::Lines::then_behind))]
@@ -62,7 +64,7 @@ pub fn expr_form(form: &LineForm, left: usize, at: usize) -> Walk
 }
 
 // A place to store, of the sort c: an expression of the cases that may stand there.
-#[tactic(auto, unfolding(sheet::specs::Form::node_form))]
+#[tactic(auto, unfolding(sheet::specs::Form::node_form), using(sheet::proofs::Walks::told, crate::proofs::Fields::sort_is))]
 pub fn place_form(form: &LineForm, left: usize, c: Sort, at: usize) -> Walk
     ensures { node_kind c ≡ 33 → result ≡ node_in form.now left c at }
 {
@@ -73,8 +75,8 @@ pub fn place_form(form: &LineForm, left: usize, c: Sort, at: usize) -> Walk
     }
 }
 
-// Absent, or an expression.
-#[tactic(auto, unfolding(sheet::specs::Form::field_form, sheet::specs::Form::times_form))]
+// Absent, or an expression. The test for absent stands in each form: absent_form says why.
+#[tactic(auto, unfolding(sheet::specs::Form::field_form, sheet::specs::Form::times_form), using(walk::proofs::Lines::alone))]
 pub fn optional_expr_form(form: &LineForm, left: usize, at: usize) -> Walk
     ensures { result ≡ field_in form.now left (optional expr) at }
 {

@@ -17,7 +17,7 @@ pub fn operator_form(form: &LineForm, n: u32, at: usize) -> Walk
     take_word(form.sheet, Kind::Place, n, p)
 }
 
-// An expression's own range: a name, a text, or neither.
+// An expression's own range: a name, a text, or neither. k is the case's number, which the clause names.
 #[inline(always)]
 #[tactic(auto, using(sheet::proofs::Cases::range_rule), unfolding(sheet::specs::Form::item_form))]
 pub fn own_form(form: &LineForm, k: u32, at: usize) -> Walk

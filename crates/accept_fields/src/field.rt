@@ -1,5 +1,8 @@
 // The fields of statements, by a function for each shape that has more than one; the table of the form is the definition that
 // they follow.
+// left falls at each node and at is what the call before gave, so neither is in form: it would be made anew for each call.
+#![tactic(auto, unfolding(sheet::specs::Form::fields_form, sheet::specs::Form::field_form, sheet::specs::Form::times_form, sheet::specs::Form::pair_form, sheet::specs::Form::item_form), using(accept_exprs::proofs::Fields::one_is, accept_exprs::proofs::Fields::last_is, walk::proofs::Lines::then_behind, walk::proofs::Lines::alone))]
+
 ghost use Rattle.std.specs.Prelude.{◌≡◌};
 ghost use Rattle.sheet.specs.declared.form.Item.TheVariants.{Range as range, Source as source, Element as element};
 ghost use Rattle.sheet.specs.declared.form.Shape.TheVariants.{Op2, Op3, Set, Def, Field, For, GoTo, If, Input, Locate, On, Open, Swap, Write};
@@ -12,8 +15,8 @@ use recorder::word::payload_at;
 use sheet::form::{ElementKind, Kind, LineForm, Shape, Sort, SourceKind, Walk};
 use sheet::leaf::{absent_form, is_absent, optional_label_form, take_word};
 
-// GET, PUT, POKE, FPUTC: two expressions.
-#[tactic(auto, unfolding(sheet::specs::Form::fields_form, sheet::specs::Form::field_form, sheet::specs::Form::times_form, sheet::specs::Form::pair_form, sheet::specs::Form::item_form), using(accept_exprs::proofs::Fields::one_is, accept_exprs::proofs::Fields::last_is, walk::proofs::Lines::then_behind, walk::proofs::Lines::alone))]
+// GET, PUT, POKE, FPUTC: two expressions. two_form, swap_form and locate_form differ in what they read: a function over that would take
+// a closure, and be no shorter.
 fn two_form(form: &LineForm, left: usize, at: usize) -> Walk
     ensures { result ≡ fields_in form.now left (shape_fields Op2) at }
 {
@@ -22,7 +25,6 @@ fn two_form(form: &LineForm, left: usize, at: usize) -> Walk
 }
 
 // FREAD, FWRITE: three.
-#[tactic(auto, unfolding(sheet::specs::Form::fields_form, sheet::specs::Form::field_form, sheet::specs::Form::times_form, sheet::specs::Form::pair_form, sheet::specs::Form::item_form), using(accept_exprs::proofs::Fields::one_is, accept_exprs::proofs::Fields::last_is, walk::proofs::Lines::then_behind, walk::proofs::Lines::alone))]
 fn three_form(form: &LineForm, left: usize, at: usize) -> Walk
     ensures { result ≡ fields_in form.now left (shape_fields Op3) at }
 {
@@ -31,7 +33,6 @@ fn three_form(form: &LineForm, left: usize, at: usize) -> Walk
 }
 
 // LET, LSET, RSET: a place and its value.
-#[tactic(auto, unfolding(sheet::specs::Form::fields_form, sheet::specs::Form::field_form, sheet::specs::Form::times_form, sheet::specs::Form::pair_form, sheet::specs::Form::item_form), using(accept_exprs::proofs::Fields::one_is, accept_exprs::proofs::Fields::last_is, walk::proofs::Lines::then_behind, walk::proofs::Lines::alone))]
 fn set_form(form: &LineForm, left: usize, at: usize) -> Walk
     ensures { result ≡ fields_in form.now left (shape_fields Set) at }
 {
@@ -40,7 +41,6 @@ fn set_form(form: &LineForm, left: usize, at: usize) -> Walk
 }
 
 // SWAP: two places.
-#[tactic(auto, unfolding(sheet::specs::Form::fields_form, sheet::specs::Form::field_form, sheet::specs::Form::times_form, sheet::specs::Form::pair_form, sheet::specs::Form::item_form), using(accept_exprs::proofs::Fields::one_is, accept_exprs::proofs::Fields::last_is, walk::proofs::Lines::then_behind, walk::proofs::Lines::alone))]
 fn swap_form(form: &LineForm, left: usize, at: usize) -> Walk
     ensures { result ≡ fields_in form.now left (shape_fields Swap) at }
 {
@@ -49,7 +49,6 @@ fn swap_form(form: &LineForm, left: usize, at: usize) -> Walk
 }
 
 // DEF: its name, its parameter, its body.
-#[tactic(auto, unfolding(sheet::specs::Form::fields_form, sheet::specs::Form::field_form, sheet::specs::Form::times_form, sheet::specs::Form::pair_form, sheet::specs::Form::item_form), using(accept_exprs::proofs::Fields::one_is, accept_exprs::proofs::Fields::last_is, walk::proofs::Lines::then_behind, walk::proofs::Lines::alone))]
 fn def_form(form: &LineForm, left: usize, at: usize) -> Walk
     ensures { result ≡ fields_in form.now left (shape_fields Def) at }
 {
@@ -59,7 +58,6 @@ fn def_form(form: &LineForm, left: usize, at: usize) -> Walk
 }
 
 // FIELD: a file, then lengths and variables.
-#[tactic(auto, unfolding(sheet::specs::Form::fields_form, sheet::specs::Form::field_form, sheet::specs::Form::times_form, sheet::specs::Form::pair_form, sheet::specs::Form::item_form), using(accept_exprs::proofs::Fields::one_is, accept_exprs::proofs::Fields::last_is, walk::proofs::Lines::then_behind, walk::proofs::Lines::alone))]
 fn field_form(form: &LineForm, left: usize, at: usize) -> Walk
     ensures { result ≡ fields_in form.now left (shape_fields Field) at }
 {
@@ -71,7 +69,6 @@ fn field_form(form: &LineForm, left: usize, at: usize) -> Walk
 }
 
 // FOR: its counter, start and end, and a step or none.
-#[tactic(auto, unfolding(sheet::specs::Form::fields_form, sheet::specs::Form::field_form, sheet::specs::Form::times_form, sheet::specs::Form::pair_form, sheet::specs::Form::item_form), using(accept_exprs::proofs::Fields::one_is, accept_exprs::proofs::Fields::last_is, walk::proofs::Lines::then_behind, walk::proofs::Lines::alone))]
 fn for_form(form: &LineForm, left: usize, at: usize) -> Walk
     ensures { result ≡ fields_in form.now left (shape_fields For) at }
 {
@@ -81,17 +78,17 @@ fn for_form(form: &LineForm, left: usize, at: usize) -> Walk
     optional_expr_form(form, left, e)
 }
 
-// GOTO: whether the keyword is written, and its target.
+// GOTO: whether the keyword is written, and its target. It has no node, so it is read the same with any depths left.
 #[tactic(auto, unfolding(sheet::specs::Form::label_form, sheet::specs::Form::fields_form, sheet::specs::Form::field_form, sheet::specs::Form::times_form, sheet::specs::Form::pair_form, sheet::specs::Form::item_form), using(accept_exprs::proofs::Fields::one_is, accept_exprs::proofs::Fields::last_is, walk::proofs::Lines::then_behind, walk::proofs::Lines::alone))]
-fn goto_form(form: &LineForm, left: usize, at: usize) -> Walk
-    ensures { result ≡ fields_in form.now left (shape_fields GoTo) at }
+fn goto_form(form: &LineForm, at: usize) -> Walk
+    ensures { result ≡ fields_in form.now 0 (shape_fields GoTo) at }
 {
     let p = take_word(form.sheet, Kind::Flag, 2, at)?;
     form.label_form(p)
 }
 
 // INPUT's source: the keyboard, the keyboard and a prompt, or a file.
-#[tactic(auto, unfolding(sheet::specs::Form::fields_form, sheet::specs::Form::field_form, sheet::specs::Form::times_form, sheet::specs::Form::pair_form, sheet::specs::Form::item_form), using(sheet::proofs::Cases::keyboard_number, sheet::proofs::Cases::prompt_number, accept_exprs::proofs::Fields::one_is, accept_exprs::proofs::Fields::last_is, walk::proofs::Lines::then_behind, walk::proofs::Lines::alone))]
+#[tactic(auto, unfolding(sheet::specs::Form::fields_form, sheet::specs::Form::field_form, sheet::specs::Form::times_form, sheet::specs::Form::pair_form, sheet::specs::Form::item_form), using(sheet::proofs::Cases::keyboard_number, sheet::proofs::Cases::prompt_number, walk::proofs::Skips::file_two, accept_exprs::proofs::Fields::one_is, accept_exprs::proofs::Fields::last_is, walk::proofs::Lines::then_behind, walk::proofs::Lines::alone))]
 fn source_form(form: &LineForm, left: usize, at: usize) -> Walk
     ensures { result ≡ item_in form.now left source at }
 {
@@ -104,7 +101,6 @@ fn source_form(form: &LineForm, left: usize, at: usize) -> Walk
 }
 
 // INPUT: where it reads from, and its places.
-#[tactic(auto, unfolding(sheet::specs::Form::fields_form, sheet::specs::Form::field_form, sheet::specs::Form::times_form, sheet::specs::Form::pair_form, sheet::specs::Form::item_form), using(accept_exprs::proofs::Fields::one_is, accept_exprs::proofs::Fields::last_is, walk::proofs::Lines::then_behind, walk::proofs::Lines::alone))]
 fn input_form(form: &LineForm, left: usize, at: usize) -> Walk
     ensures { result ≡ fields_in form.now left (shape_fields Input) at }
 {
@@ -113,7 +109,6 @@ fn input_form(form: &LineForm, left: usize, at: usize) -> Walk
 }
 
 // LOCATE: a row and a column, each of which may be absent.
-#[tactic(auto, unfolding(sheet::specs::Form::fields_form, sheet::specs::Form::field_form, sheet::specs::Form::times_form, sheet::specs::Form::pair_form, sheet::specs::Form::item_form), using(accept_exprs::proofs::Fields::one_is, accept_exprs::proofs::Fields::last_is, walk::proofs::Lines::then_behind, walk::proofs::Lines::alone))]
 fn locate_form(form: &LineForm, left: usize, at: usize) -> Walk
     ensures { result ≡ fields_in form.now left (shape_fields Locate) at }
 {
@@ -122,7 +117,6 @@ fn locate_form(form: &LineForm, left: usize, at: usize) -> Walk
 }
 
 // ON: its condition, its targets, and whether they are GOSUBs.
-#[tactic(auto, unfolding(sheet::specs::Form::fields_form, sheet::specs::Form::field_form, sheet::specs::Form::times_form, sheet::specs::Form::pair_form, sheet::specs::Form::item_form), using(accept_exprs::proofs::Fields::one_is, accept_exprs::proofs::Fields::last_is, walk::proofs::Lines::then_behind, walk::proofs::Lines::alone))]
 fn on_form(form: &LineForm, left: usize, at: usize) -> Walk
     ensures { result ≡ fields_in form.now left (shape_fields On) at }
 {
@@ -134,8 +128,7 @@ fn on_form(form: &LineForm, left: usize, at: usize) -> Walk
     take_word(form.sheet, Kind::Flag, 2, q)
 }
 
-// OPEN's LEN: absent, or a range and an expression.
-#[tactic(auto, unfolding(sheet::specs::Form::fields_form, sheet::specs::Form::field_form, sheet::specs::Form::times_form, sheet::specs::Form::pair_form, sheet::specs::Form::item_form), using(accept_exprs::proofs::Fields::one_is, accept_exprs::proofs::Fields::last_is, walk::proofs::Lines::then_behind, walk::proofs::Lines::alone))]
+// OPEN's LEN: absent, or a range and an expression. The test for absent stands in each form: absent_form says why.
 fn len_form(form: &LineForm, left: usize, at: usize) -> Walk
     ensures { result ≡ field_in form.now left (optional₂ range expr) at }
 {
@@ -147,7 +140,6 @@ fn len_form(form: &LineForm, left: usize, at: usize) -> Walk
 }
 
 // OPEN: name, mode, file number, LEN.
-#[tactic(auto, unfolding(sheet::specs::Form::fields_form, sheet::specs::Form::field_form, sheet::specs::Form::times_form, sheet::specs::Form::pair_form, sheet::specs::Form::item_form), using(accept_exprs::proofs::Fields::one_is, accept_exprs::proofs::Fields::last_is, walk::proofs::Lines::then_behind, walk::proofs::Lines::alone))]
 fn open_form(form: &LineForm, left: usize, at: usize) -> Walk
     ensures { result ≡ fields_in form.now left (shape_fields Open) at }
 {
@@ -158,7 +150,7 @@ fn open_form(form: &LineForm, left: usize, at: usize) -> Walk
 }
 
 // PRINT's element: an expression, or the range of a comma or a semicolon.
-#[tactic(auto, unfolding(sheet::specs::Form::fields_form, sheet::specs::Form::field_form, sheet::specs::Form::times_form, sheet::specs::Form::pair_form, sheet::specs::Form::item_form), using(sheet::proofs::Cases::value_number, accept_exprs::proofs::Fields::one_is, accept_exprs::proofs::Fields::last_is, walk::proofs::Lines::then_behind, walk::proofs::Lines::alone))]
+#[tactic(auto, unfolding(sheet::specs::Form::fields_form, sheet::specs::Form::field_form, sheet::specs::Form::times_form, sheet::specs::Form::pair_form, sheet::specs::Form::item_form), using(sheet::proofs::Cases::value_number, sheet::proofs::Cases::mark_number, accept_exprs::proofs::Fields::one_is, accept_exprs::proofs::Fields::last_is, walk::proofs::Lines::then_behind, walk::proofs::Lines::alone))]
 fn element_form(form: &LineForm, left: usize, at: usize) -> Walk
     ensures { result ≡ item_in form.now left element at }
 {
@@ -170,7 +162,6 @@ fn element_form(form: &LineForm, left: usize, at: usize) -> Walk
 }
 
 // WRITE: a file or none, and its values, each with a flag that says whether a comma stands behind it.
-#[tactic(auto, unfolding(sheet::specs::Form::fields_form, sheet::specs::Form::field_form, sheet::specs::Form::times_form, sheet::specs::Form::pair_form, sheet::specs::Form::item_form), using(accept_exprs::proofs::Fields::one_is, accept_exprs::proofs::Fields::last_is, walk::proofs::Lines::then_behind, walk::proofs::Lines::alone))]
 fn write_form(form: &LineForm, left: usize, at: usize) -> Walk
     ensures { result ≡ fields_in form.now left (shape_fields Write) at }
 {
@@ -200,7 +191,7 @@ pub fn plain_form(form: &LineForm, left: usize, s: Shape, at: usize) -> Walk
         Shape::Field => field_form(form, left, at),
         Shape::For => for_form(form, left, at),
         Shape::GoSub | Shape::Restore => form.label_form(at),
-        Shape::GoTo => goto_form(form, left, at),
+        Shape::GoTo => goto_form(form, at),
         Shape::Input => input_form(form, left, at),
         Shape::Locate => locate_form(form, left, at),
         Shape::Next => list_form(form, at, |q| { form.optional_name_form(q) }),

@@ -22,7 +22,7 @@ fn has_surrogate(text: &[u16]) -> bool
     found
 }
 
-// The refusals 1 to 8 of a whole input; work is the length of the lent work.
+// The refusals 1 to 8 of a whole input; work is the length of the lent work. sheet and text come from the C interface as two.
 #[tactic(auto, unfolding(sheet::specs::Check::checked))]
 pub fn check(sheet: &[u32], text: &[u16], work: usize) -> Result<(), Refusal>
     ensures { result ≡ checked sheet.now text.now work }

@@ -1,4 +1,5 @@
 // The form of statements, lines and the whole sheet, walked directly to its end or its first offence.
+// left falls at each node and at is what the call before gave, so neither is in form: it would be made anew for each call.
 ghost use Rattle.std.specs.Prelude.{◌≡◌};
 ghost use Rattle.sheet.specs.declared.form.Shape.TheVariants.{If};
 ghost use Rattle.sheet.specs.Table.{shape_fields};
@@ -13,7 +14,7 @@ use sheet::leaf::{absent_form, head_form, is_absent, take_word};
 use walk::shape::shape_of;
 use walk::stmt::{end_form, line_head};
 
-// IF: its condition, its branches.
+// IF: its condition, its branches. The test for absent stands in each form: absent_form says why.
 #[cycle(form_cycle)]
 #[tactic(auto, using(crate::proofs::Stmts::if_is))]
 fn if_form(form: &LineForm, left: usize, at: usize) -> Walk
@@ -49,7 +50,8 @@ fn stmt_form(form: &LineForm, left: usize, at: usize) -> Walk
     }
 }
 
-// A count, and so many statements.
+// A count, and so many statements. A loop of its own beside accept_fields' list_form: the cycle ends since each part stands behind the
+// one before, which a closure would not be told.
 #[cycle(form_cycle)]
 #[tactic(auto, unfolding(sheet::specs::Form::list_form, sheet::specs::Form::repeat_form))]
 fn stmts_form(form: &LineForm, left: usize, at: usize) -> Walk
@@ -62,7 +64,7 @@ fn stmts_form(form: &LineForm, left: usize, at: usize) -> Walk
     Ok(p)
 }
 
-// A line: its head, its label, its statements, with 64 depths.
+// A line: its head, its label, its statements, with 64 depths. No LineForm yet: the line's first word says how long it is.
 #[tactic(auto, unfolding(sheet::specs::Form::line_form))]
 fn line_form(sheet: &[u32], text: &[u16], base: usize, at: usize) -> Walk
     ensures { result ≡ line_form sheet.now text.now base at }
@@ -78,7 +80,8 @@ fn line_form(sheet: &[u32], text: &[u16], base: usize, at: usize) -> Walk
     stmts_form(&form, 64, q)
 }
 
-#[tactic(auto, unfolding(sheet::specs::Form::lines_form))]
+// So many lines. sheet and text go by themselves, here and below: each line makes its own LineForm of them.
+#[tactic(auto, unfolding(sheet::specs::Form::lines_form), using(walk::proofs::Lines::line_fits))]
 fn lines_form(sheet: &[u32], text: &[u16], n: u32, at: usize) -> Walk
     ensures { result ≡ lines_form sheet.now text.now n 0 at }
 {
@@ -92,7 +95,7 @@ fn lines_form(sheet: &[u32], text: &[u16], n: u32, at: usize) -> Walk
     end_form(sheet, text, base, p)
 }
 
-// A whole sheet.
+// A whole sheet: its lines, each with a LineForm of its own.
 #[tactic(auto, unfolding(sheet::specs::Form::sheet_form))]
 pub fn sheet_form(sheet: &[u32], text: &[u16]) -> Walk
     ensures { result ≡ sheet_form sheet.now text.now }

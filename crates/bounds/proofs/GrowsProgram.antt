@@ -11,13 +11,14 @@ use native.Mathlib.Omega.{arith}
 use Rattle.recorder.specs.Word.{pick, both, either}
 use Rattle.recorder.specs.Recorder.{Recorder, Look, unpack}
 use Rattle.recorder.specs.Ideal.{Rec, rec, note_of, Entry, Ideal, ideal, Search, missing, found, find_name, symbol_in, symbol_of, change, with_a, with_c, settled, unlabelled, look_of}
-use Rattle.recorder.specs.Marks.{Mark, addr_of, data_of}
+use Rattle.recorder.specs.Marks.{Mark}
 use Rattle.recorder.specs.Closing.{is_while, rec_at, end_from, close_whiles, open_note, open_notes, delays, end_rec, clean_up, rules_r}
-use Rattle.recorder.proofs.Bools.{never}
+use Rattle.recorder.proofs.Bools.{never, both_left, both_right}
 use Rattle.recorder.proofs.Words.{length_snoc, change_length}
 use Rattle.simulation.proofs.Clean.{close_length, delays_length}
 use Rattle.sheet.specs.Tree.{Opt, absent, given, Target, ProgramLine}
-use Rattle.rules.specs.Program.{Lines, is_pending_jump, is_pending_restore, label_note, compile_line, compile_lines, first_line, settle_by, resolve_labels, resolve_datum_indices, close_up}
+use Rattle.rules.specs.Program.{Lines, Waiting, is_pending, label_note, compile_line, compile_lines, first_line, settle_by, resolve, close_up}
+use Rattle.rules.proofs.Waits.{Waits, jumps_wait, restores_wait, of_waiting}
 use Rattle.bounds.specs.Size.{opt_target, line_words, lines_words, program_words}
 use Rattle.bounds.specs.Bounded.{Bounded}
 use Rattle.bounds.proofs.Tally.{Tally, tally, makes, reads, pends, Counts}
@@ -118,54 +119,35 @@ counts t = record {
 }
 
 -- a jump or a RESTORE gets its target, or a note
-settle_room : {k : Tally} {i : Ideal} (t : List ℕ) (o : Search) (class severity at : ℕ) (q : Look) → waits (rec_at i.records at) ≡ true → Room k i
-    → Room k (settle_by (rules_r t) o class severity at q i)
-settle_room {i = i} t (found v) class severity at q e p =
+settle_room : {k : Tally} {i : Ideal} (t : List ℕ) (w : Waiting) (o : Search) (at : ℕ) (q : Look) → waits (rec_at i.records at) ≡ true
+    → Room k i → Room k (settle_by (rules_r t) w o at q i)
+settle_room {i = i} t w (found v) at q e p =
     omega (arith, change_length (settled v) i.records at, later_less (settled v) (λ r. refl) i.records at e)
-settle_room {i = i} t missing class severity at q e p =
+settle_room {i = i} t w missing at q e p =
     omega (
       arith,
       change_length unlabelled i.records at,
       later_less unlabelled (λ r. refl) i.records at e,
-      length_snoc i.notes (note_of class q.line (unpack q.c) severity),
+      length_snoc i.notes (note_of w.class q.line (unpack q.c) w.severity),
     )
 
-step_room : {k : Tally} {i : Ideal} (t : List ℕ) (o : Search) (class severity at : ℕ) (b : Bool) → (b ≡ true → waits (rec_at i.records at) ≡ true) → Room k i
-    → Room k (pick b (settle_by (rules_r t) o class severity at (look_of (rec_at i.records at)) i) i)
-step_room t o class severity at true h p = settle_room t o class severity at _ (h refl) p
-step_room t o class severity at false h p = p
+step_room : {k : Tally} {i : Ideal} (t : List ℕ) (w : Waiting) (o : Search) (at : ℕ) (b : Bool) → (b ≡ true → waits (rec_at i.records at) ≡ true)
+    → Room k i → Room k (pick b (settle_by (rules_r t) w o at (look_of (rec_at i.records at)) i) i)
+step_room t w o at true h p = settle_room t w o at _ (h refl) p
+step_room t w o at false h p = p
 
-jump_waits : (r : Rec) → is_pending_jump (look_of r) ≡ true → waits r ≡ true
-jump_waits r = go (ltb 0 r.b) (eqb r.call 20) (eqb r.call 21)
-  where
-    go : (x p q : Bool) → both x (either p q) ≡ true → both (either p (either q (eqb r.call 31))) x ≡ true
-    go true true q e = refl
-    go true false true e = refl
-    go true false false e = never (sym e)
-    go false p q e = never (sym e)
+pending_waits : {w : Waiting} → Waits w → (r : Rec) → is_pending w (look_of r) ≡ true → waits r ≡ true
+pending_waits {w} h r e =
+    let p = of_waiting (λ (c : ℕ). pends c ≡ true) refl refl refl h r.call (both_right (ltb 0 r.b) (w.waits r.call) e) in
+    rw (p, both_left (ltb 0 r.b) (w.waits r.call) e)
 
-restore_waits : (r : Rec) → is_pending_restore (look_of r) ≡ true → waits r ≡ true
-restore_waits r = go (ltb 0 r.b) (eqb r.call 20) (eqb r.call 21)
-  where
-    go : (x p q : Bool) → both x (eqb r.call 31) ≡ true → both (either p (either q (eqb r.call 31))) x ≡ true
-    go true true q e = refl
-    go true false true e = refl
-    go true false false e = rw e
-    go false p q e = never (sym e)
-
-labels_room : (t : List ℕ) (ms : List Mark) (at n : ℕ) {k : Tally} {i : Ideal} → Room k i → Room k (resolve_labels (rules_r t) ms at n i)
-unfolding resolve_labels
-labels_room t ms at zero p = p
-labels_room t ms at (suc n) {i = i} p =
+resolve_room : (t : List ℕ) {w : Waiting} → Waits w → (ms : List Mark) (at n : ℕ) {k : Tally} {i : Ideal} → Room k i
+    → Room k (resolve (rules_r t) w ms at n i)
+unfolding resolve
+resolve_room t h ms at zero p = p
+resolve_room t {w} h ms at (suc n) {i = i} p =
     let r = rec_at i.records at in
-    labels_room t ms (at + 1) n (step_room t (addr_of ms (r.b - 1)) 2 1 at (is_pending_jump (look_of r)) (jump_waits r) p)
-
-data_room : (t : List ℕ) (ms : List Mark) (at n : ℕ) {k : Tally} {i : Ideal} → Room k i → Room k (resolve_datum_indices (rules_r t) ms at n i)
-unfolding resolve_datum_indices
-data_room t ms at zero p = p
-data_room t ms at (suc n) {i = i} p =
-    let r = rec_at i.records at in
-    data_room t ms (at + 1) n (step_room t (data_of ms (r.b - 1)) 3 2 at (is_pending_restore (look_of r)) (restore_waits r) p)
+    resolve_room t h ms (at + 1) n (step_room t w (w.find ms (r.b - 1)) at (is_pending w (look_of r)) (pending_waits h r) p)
 
 -- a WHILE without end gets a note
 open_note_lem : (o : Search) (r : Rec) (b : Bool) → is_while r ≡ b → length (pick b (open_note o r) []) ≤ later_note r
@@ -201,5 +183,5 @@ pub grows : (t : List ℕ) (ls : List ProgramLine)
     → Bounded (program_words ls) (close_up (rules_r t) (compile_lines (rules_r t) t ls (first_line (rules_r t) t (ideal [] [] [] 0 0))))
 unfolding close_up
 grows t ls =
-    clean_room (lines_words ls) _ (data_room t _ 0 _ (labels_room t _ 0 _
+    clean_room (lines_words ls) _ (resolve_room t restores_wait _ 0 _ (resolve_room t jumps_wait _ 0 _
     ((counts t).fit (grow_lines (counts t) t ls (first_line (rules_r t) t (ideal [] [] [] 0 0)) nothing) (omega arith))))

@@ -74,22 +74,9 @@ open_end m b t k end P h i e =
 pub pow_small : (k : ℕ) → k ≤ 31 → (0 < 2 ^ k) × (2 ^ k ≤ 2147483648)
 pow_small k h = (one-le-pow k 2 (omega arith), pow-le-pow_right {n = 2} (omega arith) h)
 
-pub unit_step : (u i e : ℕ) → u ≡ 2 ^ (i - e) → e ≤ i → u * 2 ≡ 2 ^ (i + 1 - e)
-unit_step u i e v h = let z : i + 1 - e ≡ suc (i - e) = omega arith in rw (z, pow-suc 2 (i - e), v)
-
-pub unit_fits : (u i e : ℕ) → u ≡ 2 ^ (i - e) → i < 160 → 129 ≤ e → u ≤ 2147483648
-unit_fits u i e v g h = rw v (pow_small (i - e) (omega arith)).1
-
-pub unit_end : (u i e : ℕ) → u ≡ 2 ^ (i - e) → i - e ≤ 160 - e → 129 ≤ e → 160 ≤ i → (u ≡ unit_of e) × (0 < u) × (u ≤ 2147483648)
+pub unit_pow : (u e : ℕ) → u ≡ 2 ^ (160 - e) → 129 ≤ e → (u ≡ unit_of e) × (0 < u) × (u ≤ 2147483648)
 unfolding unit_of
-unit_end u i e v g h j =
-    let z : i - e ≡ 160 - e = omega arith in
-    let w : u ≡ 2 ^ (160 - e) = rw z at v in
-    (rw (le-ltb e 129 h) w, rw w (pow_small (160 - e) (omega arith)).0, rw w (pow_small (160 - e) (omega arith)).1)
-
-pub unit_low : (e : ℕ) → e < 129 → (1 ≡ unit_of e) × (0 < 1) × (1 ≤ 2147483648)
-unfolding unit_of
-unit_low e h = (rw (lt-ltb e 129 h), omega arith, omega arith)
+unit_pow u e w h = (rw (le-ltb e 129 h) w, rw w (pow_small (160 - e) (omega arith)).0, rw w (pow_small (160 - e) (omega arith)).1)
 
 -- rounding up
 pub up_bound : (m u : ℕ) → 0 < u → u ≤ 2147483648 → m < 4294967296 → (m + u - 1) / u * u ≤ 6442450943

@@ -1,20 +1,22 @@
 // Closing up what is the recorder's: the WHILEs, the delays, End.
-ghost use Rattle.std.specs.Prelude.{◌≡◌, ◌+◌, ◌*◌, ◌≤◌, ◌<◌, min, get_or, eqb};
-ghost use Rattle.recorder.specs.Word.{word_of, flag_of};
-ghost use Rattle.recorder.specs.Closing.{is_wend, is_zero, is_one, is_start, is_end, is_for, is_next_of, round_up};
+ghost use Rattle.std.specs.Prelude.{◌≡◌, ◌+◌, ◌*◌, ◌/◌, ◌≤◌, ◌<◌, min, get_or, eqb, ltb, length, Some, None};
+ghost use Rattle.recorder.specs.Calls.{numbers_of};
+ghost use Rattle.recorder.specs.Word.{pick, both, word_of, flag_of};
+ghost use Rattle.recorder.specs.Closing.{is_one, is_start, is_end, is_for, is_next_of, round_up};
 ghost use Rattle.recorder.specs.Layout.{rec_size, range_word_at, most_records};
 ghost use Rattle.recorder.specs.CodeGen.{mem_of, SameLoans};
 ghost use Rattle.closing.specs.Parts.{passed_of, with_passed};
 ghost use Rattle.recorder.specs.Mem.{put_note, rec_of, set_b, at_rec, while_list, while_top, whiles_from, top_from, open_from, set_head, rewrite, unit_of, whole_at, delay_at, stepped_at, delayed_at, stepped_delayed_at, delay_list, delays_from, clean_up, sigil_of, unlink_at, unlink_from, unlinked};
 
-use recorder::call::{Call, Class, FOR, NEXT, NO_OP, NUMBER, OP, UNKNOWN, VAR, WHILE};
+use recorder::call::{Call, Class, FOR, NEXT, NUMBER, Numbers, OP, UNKNOWN, VAR, WHILE};
 use recorder::codegen::{
-    A, B, C, CodeGen, DOLLAR_CODE, ENTRY, EXTRA, PERCENT_CODE, RANGE, RECORD, most_records, set_at,
+    A, B, C, CodeGen, DOLLAR_CODE, ENTRY, EXTRA, EntryKind, PERCENT_CODE, RANGE, RECORD, call_of,
+    most_records, set_at, start_of,
 };
 use recorder::unit::{DOLLAR, PERCENT};
 use recorder::word::{Range, kind_at, word_at, word_of};
 
-// The statements End, WEND and SLEEP.
+// The statements End, WEND and SLEEP: an enum of 72 for the three that are looked for would be no plainer.
 const END: u32 = 17;
 
 const WEND: u32 = 62;
@@ -28,29 +30,38 @@ pub struct Number {
     pub m: u32,
 }
 
-pub fn call_of(list: &[u32], k: u32) -> u32
-    ensures { result ≡ (rec_of list.now k).call }
-{
-    kind_at(list, RECORD * (k as usize))
-}
-
+// list and k stay apart: of a delay the records from k on are asked, and a struct would be made for each.
 fn is_call(list: &[u32], k: u32, call: u8) -> bool
     ensures { result ≡ eqb (rec_of list.now k).call call }
 {
     call_of(list, k) == u32::from(call)
 }
 
+// A word of the record at an address.
+fn record_word(list: &[u32], k: u32, i: usize) -> u32
+    requires { i < rec_size }
+    ensures { result ≡ get_or list.now (rec_size * k + i) 0 }
+{
+    word_at(list, RECORD * (k as usize) + i)
+}
+
 // The arguments a and b, by the names that document 01's sentences need.
 fn a_of(list: &[u32], k: u32) -> u32
     ensures { result ≡ (rec_of list.now k).a }
 {
-    word_at(list, RECORD * (k as usize) + A)
+    record_word(list, k, A)
 }
 
 fn b_of(list: &[u32], k: u32) -> u32
     ensures { result ≡ (rec_of list.now k).b }
 {
-    word_at(list, RECORD * (k as usize) + B)
+    record_word(list, k, B)
+}
+
+fn is_call_with(list: &[u32], k: u32, call: u8, a: u32) -> bool
+    ensures { result ≡ both (eqb (rec_of list.now k).call call) (eqb (rec_of list.now k).a a) }
+{
+    is_call(list, k, call) && a_of(list, k) == a
 }
 
 // The records that the list has: fewer than 65,536.
@@ -64,20 +75,13 @@ fn present_of(words: usize, records: usize) -> u16
 fn set_b_at(list: &mut [u32], k: u32, v: u32)
     ensures { list.new ≡ at_rec (set_b v) list.old k }
 {
-    let i = k as usize;
-    if i < list.len() / RECORD {
-        let from = RECORD * i;
+    if let Some(from) = start_of(list, k) {
         set_at(&mut list[from..], B, v);
     }
 }
 
-fn is_wend(list: &[u32], k: u32) -> bool
-    ensures { result ≡ is_wend (rec_of list.now k) }
-{
-    is_call(list, k, OP) && a_of(list, k) == WEND
-}
-
-// The record at k of the pass over the WHILEs; returns the last that is open, plus 1.
+// The record at k of the pass over the WHILEs. The open ones are a pile in the list's own words, since there is no heap: `top`, and what
+// is returned, is the word that the next WHILE keeps, the last open one's address plus 1, or 0; an Option would be turned back into it.
 #[tactic(auto, unfolding(recorder::specs::Mem::while_list, recorder::specs::Mem::while_top))]
 fn while_step(list: &mut [u32], top: u32, k: u16) -> u32
     ensures { (list.new ≡ while_list list.old top k) × (result ≡ while_top list.old top k) }
@@ -87,7 +91,7 @@ fn while_step(list: &mut [u32], top: u32, k: u16) -> u32
         set_b_at(list, at, top);
         return at + 1;
     }
-    if top == 0 || !is_wend(list, at) {
+    if top == 0 || !is_call_with(list, at, OP, WEND) {
         return top;
     }
     let w = top - 1;
@@ -96,11 +100,12 @@ fn while_step(list: &mut [u32], top: u32, k: u16) -> u32
     link
 }
 
-// A word of the record at an address.
-fn record_word(code: &CodeGen, k: u32, i: u8) -> u32
+// The same of a CodeGen: a function that is lent it to write reads a word of the list through one that is lent it to read.
+fn code_word(code: &CodeGen, k: u32, i: usize) -> u32
+    requires { i < rec_size }
     ensures { result ≡ get_or code.now.list.now (rec_size * k + i) 0 }
 {
-    word_at(code.list, RECORD * (k as usize) + i as usize)
+    record_word(code.list, k, i)
 }
 
 // The note on a WHILE without WEND: its record's line and range.
@@ -108,12 +113,13 @@ fn open_note(code: &mut CodeGen, w: u32)
     ensures same { SameLoans code.old code.new }
     ensures value { mem_of code.new ≡ put_note (mem_of code.old) (word_of 13 (get_or code.old.list.now (rec_size * w) 0)) (get_or code.old.list.now (rec_size * w + range_word_at) 0) 1 }
 {
-    let line = record_word(code, w, 0);
-    let range = record_word(code, w, RANGE as u8);
+    let line = code_word(code, w, 0);
+    let range = code_word(code, w, RANGE);
     code.put_note(Class::WhileWithoutWend, line, range)
 }
 
-// The end of patch_while_instr of the Rust: a note on each WHILE left open, the last first.
+// The end of patch_while_instr of the Rust: a note on each WHILE left open, the last first. `n`, how many records the list has, bounds
+// the steps: of the links alone, which are words of any list, no proof knows an end.
 fn open_whiles(code: &mut CodeGen, top: u32, n: u16)
     ensures same { SameLoans code.old code.new }
     ensures value { mem_of code.new ≡ with_passed (mem_of code.old) (open_from (passed_of (mem_of code.old)) top n) }
@@ -124,13 +130,13 @@ fn open_whiles(code: &mut CodeGen, top: u32, n: u16)
             return;
         }
         let w = t - 1;
-        t = record_word(code, w, B as u8);
+        t = code_word(code, w, B);
         open_note(code, w);
         set_b_at(code.list, w, UNKNOWN);
     }
 }
 
-// A record anew but for its line and its range.
+// A record's head with another call; its line stays.
 fn set_head(part: &mut [u32], call: u8)
     ensures { part.new ≡ set_head call part.old }
 {
@@ -140,61 +146,58 @@ fn set_head(part: &mut [u32], call: u8)
     }
 }
 
-fn rewrite_part(part: &mut [u32], call: u8, a: u32, b: u32, c: u32)
-    ensures { part.new ≡ rewrite call a b c part.old }
+// A record anew but for its line and its range.
+fn rewrite_part(part: &mut [u32], n: Numbers)
+    ensures { part.new ≡ rewrite n.call n.a n.b n.c part.old }
 {
-    set_head(part, call);
-    set_at(part, A, a);
-    set_at(part, B, b);
-    set_at(part, C, c);
+    set_head(part, n.call);
+    set_at(part, A, n.a);
+    set_at(part, B, n.b);
+    set_at(part, C, n.c);
 }
 
 #[tactic(auto, unfolding(recorder::specs::Mem::at_rec, recorder::specs::Mem::part))]
-fn rewrite_at(list: &mut [u32], k: u32, call: u8, a: u32, b: u32, c: u32)
-    ensures { list.new ≡ at_rec (rewrite call a b c) list.old k }
+fn rewrite_at(list: &mut [u32], k: u32, call: Call)
+    ensures { list.new ≡ at_rec (rewrite (numbers_of call).call (numbers_of call).a (numbers_of call).b (numbers_of call).c) list.old k }
 {
-    let i = k as usize;
-    if i < list.len() / RECORD {
-        let from = RECORD * i;
-        rewrite_part(&mut list[from..], call, a, b, c);
+    if let Some(from) = start_of(list, k) {
+        rewrite_part(&mut list[from..], call.numbers());
     }
 }
 
-// 2^(160−e), for e from 129 on.
+// 2^(160−e).
 fn unit_of(e: u32) -> u64
+    requires { (129 ≤ e) × (e < 160) }
     ensures { (result ≡ unit_of e) × (0 < result) × (result ≤ 2147483648) }
 {
-    if e < 129 {
-        return 1;
-    }
-    let mut u: u64 = 1;
-    for _ in e..160 {
-        u *= 2;
-    }
-    u
+    2_u64.pow(160 - e)
 }
 
-// "a number end is rounded up to a whole number"
-pub fn round_up(e: u32, m: u32) -> Number
-    ensures { (result.e ≡ (round_up e m).e) × (result.m ≡ (round_up e m).m) }
-{
-    if e < 129 {
-        return Number {
-            e: 129,
-            m: 2147483648,
-        };
-    }
-    if 160 <= e {
-        return Number { e, m };
-    }
-    let unit = unit_of(e);
-    let up = (m as u64 + unit - 1) / unit * unit;
-    if up < 4294967296 {
-        return Number { e, m: up as u32 };
-    }
-    Number {
-        e: e + 1,
-        m: (up / 2) as u32,
+impl Number {
+    // "a number end is rounded up to a whole number"
+    pub fn round_up(self) -> Number
+        ensures { (result.e ≡ (round_up self.e self.m).e) × (result.m ≡ (round_up self.e self.m).m) }
+    {
+        let e = self.e;
+        let m = self.m;
+        if e < 129 {
+            return Number {
+                e: 129,
+                m: 2147483648,
+            };
+        }
+        if 160 <= e {
+            return Number { e, m };
+        }
+        let unit = unit_of(e);
+        let up = (m as u64 + unit - 1) / unit * unit;
+        if up < 4294967296 {
+            return Number { e, m: up as u32 };
+        }
+        Number {
+            e: e + 1,
+            m: (up / 2) as u32,
+        }
     }
 }
 
@@ -203,15 +206,13 @@ fn whole_at(list: &mut [u32], k: u32)
     ensures { list.new ≡ whole_at list.old k }
 {
     if is_call(list, k, NUMBER) {
-        let v = round_up(a_of(list, k), b_of(list, k));
-        rewrite_at(list, k, NUMBER, v.e, v.m, 0);
+        let number = Number {
+            e: a_of(list, k),
+            m: b_of(list, k),
+        };
+        let v = number.round_up();
+        rewrite_at(list, k, Call::Number(v.e, v.m));
     }
-}
-
-fn is_zero(list: &[u32], k: u32) -> bool
-    ensures { result ≡ is_zero (rec_of list.now k) }
-{
-    is_call(list, k, NUMBER) && a_of(list, k) == 0
 }
 
 fn is_one(list: &[u32], k: u32) -> bool
@@ -220,10 +221,11 @@ fn is_one(list: &[u32], k: u32) -> bool
     is_call(list, k, NUMBER) && a_of(list, k) == 129 && b_of(list, k) == 2147483648
 }
 
+// "number zero or one": zero has the exponent 0.
 fn is_start(list: &[u32], k: u32) -> bool
     ensures { result ≡ is_start (rec_of list.now k) }
 {
-    is_zero(list, k) || is_one(list, k)
+    is_call_with(list, k, NUMBER, 0) || is_one(list, k)
 }
 
 fn is_end(list: &[u32], k: u32) -> bool
@@ -242,6 +244,7 @@ fn is_for(list: &[u32], k: u32, step: bool) -> bool
     is_call(list, k, FOR) && b_of(list, k) == u32::from(step)
 }
 
+// The word of NEXT is document 01's: the symbol plus 1, or 0 where it names none.
 fn is_next_of(list: &[u32], f: u32, k: u32) -> bool
     ensures { result ≡ is_next_of (rec_of list.now f) (rec_of list.now k) }
 {
@@ -249,6 +252,7 @@ fn is_next_of(list: &[u32], f: u32, k: u32) -> bool
     is_call(list, k, NEXT) && (a == 0 || a - 1 == a_of(list, f))
 }
 
+// With a step a delay has a record more: as one function with a flag most lines of this and of make_delay would test it.
 #[tactic(auto, unfolding(recorder::specs::Mem::delay_at))]
 fn is_delay(list: &[u32], at: u16) -> bool
     ensures { result ≡ delay_at list.now at }
@@ -278,10 +282,10 @@ fn make_delay(list: &mut [u32], at: u16)
     ensures { list.new ≡ delayed_at list.old at }
 {
     let k = at as u32;
-    rewrite_at(list, k, NO_OP, 0, 0, 0);
+    rewrite_at(list, k, Call::NoOp);
     whole_at(list, k + 1);
-    rewrite_at(list, k + 2, OP, SLEEP, 1, 0);
-    rewrite_at(list, k + 3, NO_OP, 0, 0, 0);
+    rewrite_at(list, k + 2, Call::Op(SLEEP, 1));
+    rewrite_at(list, k + 3, Call::NoOp);
 }
 
 #[tactic(auto, unfolding(recorder::specs::Mem::stepped_delayed_at))]
@@ -289,11 +293,11 @@ fn make_stepped_delay(list: &mut [u32], at: u16)
     ensures { list.new ≡ stepped_delayed_at list.old at }
 {
     let k = at as u32;
-    rewrite_at(list, k, NO_OP, 0, 0, 0);
+    rewrite_at(list, k, Call::NoOp);
     whole_at(list, k + 1);
-    rewrite_at(list, k + 2, NO_OP, 0, 0, 0);
-    rewrite_at(list, k + 3, OP, SLEEP, 1, 0);
-    rewrite_at(list, k + 4, NO_OP, 0, 0, 0);
+    rewrite_at(list, k + 2, Call::NoOp);
+    rewrite_at(list, k + 3, Call::Op(SLEEP, 1));
+    rewrite_at(list, k + 4, Call::NoOp);
 }
 
 #[tactic(auto, unfolding(recorder::specs::Mem::delay_list))]
@@ -322,7 +326,8 @@ fn loop_step(list: &mut [u32], top: u32, k: u16) -> u32
 }
 
 // patch_while_instr, but for the WHILEs left open, and convert_for_loop_to_sleep of the Rust: the two passes made as one. Returns
-// the last WHILE left open, plus 1.
+// the last WHILE left open, plus 1, or 0. `n` is how many records the list has: of a list cut to them the clause would have to say what
+// stays behind it.
 fn close_loops(list: &mut [u32], n: u16) -> u32
     ensures { (list.new ≡ delays_from (whiles_from list.old 0 0 n) 0 n) × (result ≡ top_from list.old 0 0 n) }
 {
@@ -333,6 +338,7 @@ fn close_loops(list: &mut [u32], n: u16) -> u32
     top
 }
 
+// The unit of a sigil's code, 0 for none: document 01's word for a sigil.
 fn sigil_of(c: u32) -> u32
     ensures { result ≡ sigil_of c }
 {
@@ -350,7 +356,7 @@ fn unlink_at(book: &mut [u32], k: usize)
     if k < book.len() / ENTRY {
         let i = ENTRY * k;
         if 127 < kind_at(book, i) {
-            let head = word_of(50, word_at(book, i));
+            let head = word_of(EntryKind::Name as u8, word_at(book, i));
             let last = sigil_of(word_at(book, i + EXTRA) % 4);
             book[i] = head;
             book[i + EXTRA] = last;
@@ -358,7 +364,8 @@ fn unlink_at(book: &mut [u32], k: usize)
     }
 }
 
-// The book as document 01 has it: the names have no tags and are in no tree any more.
+// The book as document 01 has it: the names have no tags and are in no tree any more. The book is not cut to the known entries: the
+// clause says, too, that what stands behind them stays.
 fn unlink_names(book: &mut [u32], known: usize)
     ensures { book.new ≡ unlink_from book.old 0 known }
 {

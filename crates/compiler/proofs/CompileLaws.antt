@@ -8,17 +8,11 @@ use borrow.Author.Tests.{le-leb, lt-leb}
 use lib.ListN.{length, replicate, length-replicate}
 use Rattle.recorder.specs.Word.{payload_at}
 use Rattle.recorder.specs.Mem.{Mem, mem, mem_r, nothing, records_in, list_full}
-use Rattle.sheet.specs.Check.{Checked}
-use Rattle.sheet.specs.Check.{Accepted}
-use Rattle.sheet.specs.declared.form.Refusal.{Refusal}
-use Rattle.std.specs.Prelude.{Ok, Err}
-use Rattle.sheet.specs.Check.{checked, refusal_number, refusal_place}
-use Rattle.walk.proofs.LinesFit.{lines_fit, lines_few}
 use Rattle.labels.specs.MarksIn.{MarksIn}
 use Rattle.program.specs.Line.{Programmed}
 use Rattle.rules.specs.Program.{Lines, close_up}
 use Rattle.recorder.specs.Layout.{most_records}
-use Rattle.rules.specs.Outcome.{Outcome, Lengths, lengths, refused, finished, sized, outcome}
+use Rattle.rules.specs.Outcome.{Outcome, Lengths, lengths, refused, finished, sized}
 use Rattle.rules.specs.MemAnswer.{mem_sized}
 use Rattle.rules.proofs.SimOutcome.{mem_lines, mem_outcome, held_outcome, Long, lines_long, closed_long}
 
@@ -28,20 +22,6 @@ lens m w = lengths (length m.list) (length m.notes) (length m.book) w
 
 lens_are : (L : Lengths) (m : Mem) (w : ℕ) → Long L m → w ≡ L.work → lens m w ≡ L
 lens_are L m w l e = rw (l.list, l.notes, l.book, e) refl
-
--- refusals 1 to 8
-pub refused_is : (s t : List ℕ) (L : Lengths) (c : Checked) (r : Refusal) (o : Outcome) → c ≡ checked s t L.work → c ≡ Err r
-    → o ≡ refused (refusal_number r) (refusal_place r) L → o ≡ outcome s t L
-unfolding outcome
-refused_is s t L c r o hc d e = rw (← hc, d) e
-
--- no refusal: the form is good, each line has three words of work, and one is left
-pub accepted_is : (s t : List ℕ) (L : Lengths) (c : Checked) (u : Unit) (o : Outcome) → c ≡ checked s t L.work → c ≡ Ok u
-    → (3 * payload_at s 0 < L.work → payload_at s 0 < 65536 → o ≡ sized (finished s t) L) → o ≡ outcome s t L
-unfolding outcome
-accepted_is s t L c u o hc d e =
-    let g : checked s t L.work ≡ Accepted = sym hc ∙ d in
-    rw g (e (lines_fit s t L.work g) (lines_few s t L.work g))
 
 -- zeros lent: the run is the memory's
 pub record FromZeros (s t : List ℕ) (L : Lengths) (m : Mem) (w : List ℕ) (k : ℕ) : Type 0 where

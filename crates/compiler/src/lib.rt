@@ -13,8 +13,9 @@ ghost use Rattle.compiler.specs.Answered.{outcome_of, outcome_in, lengths_in};
 use recorder::codegen::{CodeGen, State, clear, most_records};
 use sheet::form::Refusal;
 
-// How many records, notes and book entries a sheet makes.
-#[derive(Clone, Copy, PartialEq, Eq)]
+// How many records, notes and book entries a sheet makes. Document 01's answer is these numbers, and the buffers stay the caller's,
+// as in C: so who reads has a buffer and a count.
+#[derive(Clone, Copy, PartialEq, Eq, Default)]
 pub struct Sizes {
     pub records: u32,
     pub notes: usize,
@@ -63,7 +64,8 @@ fn sized_up(code: &mut CodeGen, work: &mut [u32]) -> Answer
     })
 }
 
-// A sheet whose form is good, with three words of work for each line and one more.
+// A sheet whose form is good, with three words of work for each line and one more. work is lent beside code, since the rules'
+// memory has none; a Source is made for each line, since it says where that begins.
 fn compile_accepted(sheet: &[u32], text: &[u16], code: &mut CodeGen, work: &mut [u32]) -> Answer
     ensures same { SameLoans code.old code.new }
     ensures value { code.old.st ≡ nothing → 3 * payload_at sheet.now 0 < length work.old → payload_at sheet.now 0 < 65536 → outcome_in result code.new work.new ≡ sized (finished sheet.now text.now) (lengths_in code.old work.old) }
@@ -81,6 +83,7 @@ fn compile_accepted(sheet: &[u32], text: &[u16], code: &mut CodeGen, work: &mut 
 }
 
 // The sheet checked, and compiled where its form is good.
+#[tactic(auto, unfolding(rules::specs::Outcome::outcome), using(walk::proofs::LinesFit::lines_few, walk::proofs::LinesFit::lines_fit))]
 fn compile_checked(sheet: &[u32], text: &[u16], code: &mut CodeGen, work: &mut [u32]) -> Answer
     ensures same { SameLoans code.old code.new }
     ensures value { code.old.st ≡ nothing → outcome_in result code.new work.new ≡ outcome sheet.now text.now (lengths_in code.old work.old) }

@@ -1,35 +1,29 @@
 -- DIM and FIELD: one law for each way out.
-use mathlib.Core.Path.{◌≡◌, refl}
+use mathlib.Core.Path.{◌≡◌, refl, ap}
 use mathlib.Core.List.{List}
-use Prim.Native.Nat.{ℕ, zero, suc, ◌-◌, ◌≤◌, ◌<◌}
+use Prim.Native.Nat.{ℕ, zero, suc, ◌-◌}
 use lib.ListN.{length}
-use native.Mathlib.Omega.{arith}
 use Rattle.recorder.specs.declared.word.Range.{Range}
 use Rattle.recorder.specs.Word.{payload_at, range_at, next}
 use Rattle.recorder.specs.Mem.{Mem, mem_r}
 use Rattle.sheet.specs.declared.form.Sort.TheVariants.{Expr as exprSort, Place as placeSort}
-use Rattle.sheet.specs.declared.form.Shape.TheVariants.{Dim, Field}
+use Rattle.sheet.specs.declared.form.Shape.TheVariants.{Field}
 use Rattle.sheet.specs.Table.{expr_fields}
-use Rattle.sheet.specs.Skip.{skip_node, skip_repeat, skip_list, skip_fields, skip_field, skip_times, skip_pair, skip_item}
-use Rattle.sheet.specs.Tree.{Expr, count, expr_at, expr_node, exprs_at, items_at, opt_at, stmt_node, field_spec_at, args_at}
-use Rattle.rules.specs.declared.types.«Type».TheVariants.{Real, String}
+use Rattle.sheet.specs.Skip.{skip_node, skip_list, skip_fields, skip_field, skip_times, skip_pair, skip_item}
+use Rattle.sheet.specs.Tree.{Expr, count, expr_at, expr_node, exprs_at, items_at, opt_at, stmt_node, field_spec_at}
+use Rattle.rules.specs.declared.types.«Type».TheVariants.{Real}
 use Rattle.rules.specs.declared.tables.Wants.TheVariants.{Every}
-use Rattle.rules.specs.Expr.{compile_typed}
-use Rattle.rules.specs.Stmt.{compile_stmt, place_typed, dim_node, dim_one, compile_dim, compile_fields, compile_field}
+use Rattle.rules.specs.Stmt.{compile_stmt, dim_node, dim_one, compile_field}
 use Rattle.std.specs.Prelude.{Option}
-use Rattle.nodes.specs.Compiled.{opt_of, CompiledArgs, CompiledTyped, PlaceTyped, PayloadAt}
+use Rattle.nodes.specs.Compiled.{opt_of, CompiledArgs, CompiledTyped, PayloadAt}
 use Rattle.expressions.specs.Body.{Body}
-use Rattle.expressions.proofs.Lists.{exprs_step, items_step, repeat_step, items_length, place_same, repeat_same, items_same}
+use Rattle.expressions.proofs.Lists.{items_length, place_same}
 use Rattle.expressions.proofs.ExprLaws.{Head, node, over, how_many_lem}
-use Rattle.declarations.specs.Parts.{Dimmed, DimDone, pair_on, FieldsDone}
-
-pub plain_head : (s : List ℕ) (left at k q p : ℕ) → (left ≡ 0 → ⊥) → k ≡ payload_at s at → q ≡ next s at → p ≡ next s q → Head s left at k (range_at s (next s at)) p
-plain_head s left at k q p d hk hq hp = record { deep = d; kind = hk; range = refl; behind = rw (← hq) hp }
+use Rattle.declarations.specs.Parts.{Dimmed, pair_on, FieldsDone}
 
 -- DIM
-pub dim_zero : (s t : List ℕ) (base left at : ℕ) (m : Mem) → left ≡ 0 → Dimmed s t base left at m m at
-unfolding expr_at skip_node dim_one
-dim_zero s t base left at m e = rw e (record { place = refl; result = refl })
+pub plain_head : (s : List ℕ) (left at k q p : ℕ) → (left ≡ 0 → ⊥) → k ≡ payload_at s at → q ≡ next s at → p ≡ next s q → Head s left at k (range_at s (next s at)) p
+plain_head s left at k q p d hk hq hp = record { deep = d; kind = hk; range = refl; behind = rw (← hq) hp }
 
 pub dim_array : (s t : List ℕ) (base left at k : ℕ) (r : Range) (p : ℕ) (o : Option Range) (q n q1 q2 : ℕ) (m m1 m2 : Mem) → Head s left at k r p → k ≡ 7
     → opt_of o ≡ opt_at s (range_at s) p → q ≡ next s p → PayloadAt s q n q1 → CompiledArgs s t base (left - 1) q1 n Every m m1 q2
@@ -61,60 +55,15 @@ pub dim_other : (s t : List ℕ) (base left at k : ℕ) (r : Range) (p q : ℕ) 
 dim_other s t base left at k r p q m h b e =
     record { place = e; result = rw (node s left at k r p h) (no_array s t base (expr_at s (left - 1)) (skip_node s (left - 1) exprSort) k r p m b) }
 
-dims_more : (s t : List ℕ) (base left n at : ℕ) (m : Mem) → 0 < n → compile_dim (mem_r t) t base (args_at s left n at) m
-    ≡ compile_dim (mem_r t) t base (args_at s left (n - 1) (skip_node s left exprSort at)) (dim_one (mem_r t) t base (expr_at s left at) m)
-unfolding compile_dim
-dims_more s t base left n at m h = rw (exprs_step s (expr_at s left) (skip_node s left exprSort) n at h)
-
-pub step_dim : (s t : List ℕ) (base left n at p : ℕ) (m m1 : Mem) → 0 < n → Dimmed s t base left at m m1 p
-    → compile_dim (mem_r t) t base (args_at s left (n - 1) p) m1
-    ≡ compile_dim (mem_r t) t base (args_at s left n at) m
-step_dim s t base left n at p m m1 h x = rw (dims_more s t base left n at m h, ← x.place, ← x.result)
-
-pub dim_done : (s t : List ℕ) (base left n k at at₀ : ℕ) (m m₀ : Mem) → n ≤ 0 → skip_repeat s (skip_node s left exprSort) n at ≡ skip_repeat s (skip_node s left exprSort) k at₀
-    → compile_dim (mem_r t) t base (args_at s left n at) m ≡ compile_dim (mem_r t) t base (args_at s left k at₀) m₀
-    → DimDone s t base left at₀ k m₀ m at
-unfolding exprs_at compile_dim skip_repeat
-dim_done s t base left zero k at at₀ m m₀ h p q = record { place = p; result = q }
-dim_done s t base left (suc n) k at at₀ m m₀ h p q = absurd (omega arith)
-
-pub at_dim : (s t : List ℕ) (base left k at : ℕ) (r : Range) (n p q : ℕ) (m m1 : Mem) → PayloadAt s at n p → DimDone s t base left p n m m1 q → Body s t base left Dim k r at m m1 q
-unfolding stmt_node compile_stmt skip_fields skip_field skip_times skip_pair skip_item skip_list
-at_dim s t base left k at r n p q m m1 c d = record { place = rw (← c.place, ← c.value) d.place; result = λ child. rw (← c.place, ← c.value) d.result }
-
 -- FIELD
-fields_more : (s t : List ℕ) (base left n at : ℕ) (m : Mem) → 0 < n → compile_fields (mem_r t) t base (items_at s (field_spec_at s left) (pair_on s left) n at) m
-    ≡ compile_fields (mem_r t) t base (items_at s (field_spec_at s left) (pair_on s left) (n - 1) (pair_on s left at))
-    (place_typed (mem_r t) t base String (expr_at s left (skip_node s left exprSort at)) (compile_typed (mem_r t) t base Real (expr_at s left at) m))
-unfolding compile_fields
-fields_more s t base left n at m h = rw (items_step s (field_spec_at s left) (pair_on s left) n at h)
-
-pub step_field : (s t : List ℕ) (base left n at q p : ℕ) (m m1 m2 : Mem) → 0 < n → CompiledTyped s t base left at Real m m1 q → PlaceTyped s t base left q String m1 m2 p
-    → compile_fields (mem_r t) t base (items_at s (field_spec_at s left) (pair_on s left) (n - 1) p) m2
-    ≡ compile_fields (mem_r t) t base (items_at s (field_spec_at s left) (pair_on s left) n at) m
-step_field s t base left n at q p m m1 m2 h x y = rw (fields_more s t base left n at m h, ← x.place, ← y.place, ← x.result, ← y.result)
-
-pub step_pair : (s : List ℕ) (left n at q p : ℕ) → 0 < n → q ≡ skip_node s left exprSort at → p ≡ skip_node s left exprSort q
-    → skip_repeat s (pair_on s left) (n - 1) p ≡ skip_repeat s (pair_on s left) n at
-step_pair s left n at q p h hq hp = rw (repeat_step s (pair_on s left) n at h, ← hq, ← hp)
-
-pub fields_done : (s t : List ℕ) (base left n k at at₀ : ℕ) (m m₀ : Mem) → n ≤ 0 → skip_repeat s (pair_on s left) n at ≡ skip_repeat s (pair_on s left) k at₀
-    → compile_fields (mem_r t) t base (items_at s (field_spec_at s left) (pair_on s left) n at) m ≡ compile_fields (mem_r t) t base (items_at s (field_spec_at s left) (pair_on s left) k at₀) m₀
-    → FieldsDone s t base left at₀ k m₀ m at
-unfolding items_at compile_fields skip_repeat
-fields_done s t base left zero k at at₀ m m₀ h p q = record { place = p; result = q }
-fields_done s t base left (suc n) k at at₀ m m₀ h p q = absurd (omega arith)
-
 pub at_field : (s t : List ℕ) (base left k at : ℕ) (r : Range) (p n q q1 q2 : ℕ) (m m1 m2 m3 : Mem) → p ≡ skip_node s left exprSort at → PayloadAt s p n q → FieldsDone s t base left q n m m1 q1
     → CompiledTyped s t base left at Real m1 m2 q2 → m3 ≡ (mem_r t).emit m2 29 r n 0 0 → Body s t base left Field k r at m m3 q1
 unfolding stmt_node compile_stmt compile_field skip_fields skip_field skip_times skip_pair skip_item skip_list
 at_field s t base left k at r p n q q1 q2 m m1 m2 m3 hp c d x e =
-    let places : skip_repeat s (λ z. skip_node s left placeSort (skip_node s left exprSort z)) n q ≡ skip_repeat s (pair_on s left) n q =
-    repeat_same s (λ z. skip_node s left placeSort (skip_node s left exprSort z)) (pair_on s left) (λ z. place_same s left (skip_node s left exprSort z)) n q in
-    let specs : items_at s (field_spec_at s left) (λ z. skip_node s left placeSort (skip_node s left exprSort z)) n q ≡ items_at s (field_spec_at s left) (pair_on s left) n q =
-    items_same s (field_spec_at s left) (λ z. skip_node s left placeSort (skip_node s left exprSort z)) (pair_on s left) (λ z. place_same s left (skip_node s left exprSort z)) n q in
+    let pairs : (λ z. skip_node s left placeSort (skip_node s left exprSort z)) ≡ pair_on s left =
+    ap (λ g z. g (skip_node s left exprSort z)) (place_same s left) in
     let count_is : length (items_at s (field_spec_at s left) (pair_on s left) n q) ≡ n = items_length s (field_spec_at s left) (pair_on s left) n q in
     record {
-      place = rw (← hp, ← c.place, ← c.value, places) d.place;
-      result = λ child. rw (← hp, ← c.place, ← c.value, specs, count_is, ← d.result, ← x.result) e;
+      place = rw (← hp, ← c.place, ← c.value, pairs) d.place;
+      result = λ child. rw (← hp, ← c.place, ← c.value, pairs, count_is, ← d.result, ← x.result) e;
     }

@@ -7,15 +7,16 @@ use Rattle.sheet.specs.Skip.{skip_node, skip_repeat}
 use Rattle.sheet.specs.Tree.{Opt, Datum, expr_at, items_at, datum_at, field_spec_at, args_at}
 use Rattle.rules.specs.Stmt.{def_node, compile_data, dim_one, compile_dim, compile_fields}
 use Rattle.expressions.specs.Lists.{two_on}
+use Rattle.declarations.specs.declared.data.Datum.{Datum as DatumWords}
 
 -- DEF's body at a place, behind its two names
 pub record Defined (s t : List ℕ) (base left at : ℕ) (n a : Opt Range) (r : Range) (x y : ℕ) (m m' : Mem) (p : ℕ) : Type 0 where
   pub place : p ≡ skip_node s left exprSort at
   pub result : m' ≡ def_node (mem_r t) t base n a r x y (expr_at s left at) m
 
--- n data from a place on
-abbrev pub datum_of : Range → ℕ → Datum
-datum_of r q = record { range = r; quoted = q }
+-- a datum; n of them from a place on
+abbrev pub datum_of : DatumWords → Datum
+datum_of d = record { range = d.range; quoted = d.quoted }
 
 pub record DataDone (s t : List ℕ) (base at n : ℕ) (m m' : Mem) (p : ℕ) : Type 0 where
   pub place : p ≡ skip_repeat s (two_on s) n at

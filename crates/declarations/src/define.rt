@@ -1,5 +1,6 @@
 // DEF.
-ghost use Rattle.std.specs.Prelude.{ℕ};
+ghost use Rattle.std.specs.Prelude.{◌≡◌, ℕ, Option, is_some, unwrap_or};
+ghost use Rattle.recorder.specs.declared.word.Range.{Range};
 ghost use Rattle.recorder.specs.CodeGen.{mem_of, SameLoans};
 ghost use Rattle.sheet.specs.declared.form.Shape.TheVariants.{Def};
 ghost use Rattle.sheet.specs.Tree.{given};
@@ -41,21 +42,17 @@ fn def_node(
     code: &mut CodeGen,
     at: usize,
     left: usize,
-    o: Option<Range>,
-    a: Option<Range>,
     r: Range,
-    name: u32,
-    parameter: u32,
+    name: Option<u32>,
+    parameter: Option<u32>,
 ) -> usize
     ensures same { SameLoans code.old code.new }
-    ensures value { Defined src.now.sheet.now src.now.text.now src.now.base left at (opt_of o) (opt_of a) r name parameter (mem_of code.old) (mem_of code.new) result }
+    ensures value { (o a : Option Range) → is_some o ≡ is_some name → is_some a ≡ is_some parameter → Defined src.now.sheet.now src.now.text.now src.now.base left at (opt_of o) (opt_of a) r (unwrap_or name 0) (unwrap_or parameter 0) (mem_of code.old) (mem_of code.new) result }
 {
-    match o {
-        Some(_) => match a {
-            Some(_) => def_whole(src, code, at, left, r, name, parameter),
-            None => expressions::expr::compile_typed(src, code, at, left, Type::Real),
-        },
-        None => expressions::expr::compile_typed(src, code, at, left, Type::Real),
+    if let (Some(name), Some(parameter)) = (name, parameter) {
+        def_whole(src, code, at, left, r, name, parameter)
+    } else {
+        expressions::expr::compile_typed(src, code, at, left, Type::Real)
     }
 }
 
@@ -69,5 +66,5 @@ pub fn compile_def(src: &Source, code: &mut CodeGen, at: usize, left: usize, r: 
     let x = nodes::node::opt_real_sym(src, code, o);
     let y = nodes::node::opt_real_sym(src, code, a);
     let q = recorder::word::behind(src.sheet, p);
-    def_node(src, code, q, left, o, a, r, x, y)
+    def_node(src, code, q, left, r, x, y)
 }

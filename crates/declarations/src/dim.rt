@@ -21,16 +21,14 @@ fn dim_node(src: &Source, code: &mut CodeGen, o: Option<Range>, n: u32)
     ensures same { SameLoans code.old code.new }
     ensures value { mem_of code.new ≡ dim_node (mem_r src.now.text.now) src.now.text.now src.now.base (opt_of o) n (mem_of code.old) }
 {
-    match o {
-        Some(nr) => {
-            let y = nodes::node::compile_sym(src, code, nr);
-            code.emit(nr, Call::Dim(y.number, n))
-        }
-        None => {}
+    if let Some(nr) = o {
+        let y = nodes::node::compile_sym(src, code, nr);
+        code.emit(nr, Call::Dim(y.number, n))
     }
 }
 
 // An array's subscripts and its name; any other expression makes nothing.
+#[tactic(auto, unfolding(sheet::specs::Tree::expr_at, sheet::specs::Skip::skip_node, rules::specs::Stmt::dim_one))]
 fn dim_one(src: &Source, code: &mut CodeGen, at: usize, left: usize) -> usize
     ensures same { SameLoans code.old code.new }
     ensures value { Dimmed src.now.sheet.now src.now.text.now src.now.base left at (mem_of code.old) (mem_of code.new) result }
@@ -62,6 +60,9 @@ fn dim_one(src: &Source, code: &mut CodeGen, at: usize, left: usize) -> usize
     }
 }
 
+// So many arrays from a place on.
+// accept_fields' lists share a loop over a closure. Here the closure would write code, of which a contract says only that it was called.
+#[tactic(auto, unfolding(sheet::specs::Skip::skip_repeat, sheet::specs::Tree::exprs_at, rules::specs::Stmt::compile_dim), using(expressions::proofs::Lists::turns))]
 fn dim_each(src: &Source, code: &mut CodeGen, at: usize, n: u32, left: usize) -> usize
     ensures same { SameLoans code.old code.new }
     ensures value { DimDone src.now.sheet.now src.now.text.now src.now.base left at n (mem_of code.old) (mem_of code.new) result }
@@ -73,6 +74,7 @@ fn dim_each(src: &Source, code: &mut CodeGen, at: usize, n: u32, left: usize) ->
     p
 }
 
+#[tactic(auto, unfolding(sheet::specs::Tree::stmt_node, rules::specs::Stmt::compile_stmt, sheet::specs::Skip::skip_fields, sheet::specs::Skip::skip_field, sheet::specs::Skip::skip_times, sheet::specs::Skip::skip_pair, sheet::specs::Skip::skip_item, sheet::specs::Skip::skip_list))]
 pub fn compile_dim(src: &Source, code: &mut CodeGen, at: usize, left: usize) -> usize
     ensures same { SameLoans code.old code.new }
     ensures value { (k : ℕ) (r : Range) → Body src.now.sheet.now src.now.text.now src.now.base left Dim k r at (mem_of code.old) (mem_of code.new) result }

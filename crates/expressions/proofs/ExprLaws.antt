@@ -1,8 +1,8 @@
 -- compile_expr and compile_args: one law for each way out.
 use mathlib.Core.Path.{◌≡◌, refl, ap}
 use mathlib.Core.List.{List}
-use Prim.Native.Nat.{ℕ, zero, suc, ◌+◌, ◌-◌, ◌≤◌, ◌<◌}
-use native.Mathlib.Numerals.{sub-one, add-one}
+use Prim.Native.Nat.{ℕ, zero, suc, ◌+◌, ◌-◌, ◌≤◌}
+use native.Mathlib.Numerals.{sub-one}
 use native.Mathlib.Omega.{arith}
 use Rattle.recorder.specs.declared.word.Range.{Range}
 use Rattle.recorder.specs.Word.{payload_at, range_at, next}
@@ -10,17 +10,14 @@ use Rattle.recorder.specs.Mem.{Mem, mem_r}
 use Rattle.sheet.specs.declared.form.Sort.{Sort}
 use Rattle.sheet.specs.declared.form.Sort.TheVariants.{Expr as exprSort}
 use Rattle.sheet.specs.Table.{expr_fields}
-use Rattle.sheet.specs.Skip.{skip_node, skip_repeat, skip_list, skip_fields, skip_field, skip_times, skip_pair, skip_item}
-use Rattle.sheet.specs.Tree.{Expr, Exprs, more, error, expr_range, count, expr_at, expr_node, exprs_at, opt_at, mantissa_at, args_at}
+use Rattle.sheet.specs.Skip.{skip_node, skip_list, skip_fields, skip_field, skip_times, skip_pair, skip_item}
+use Rattle.sheet.specs.Tree.{Expr, error, expr_range, count, expr_at, expr_node, exprs_at, opt_at, mantissa_at}
 use Rattle.rules.specs.declared.types.«Type».{«Type» as Ty}
 use Rattle.rules.specs.declared.types.«Type».TheVariants.{Real, String, Error}
-use Rattle.rules.specs.declared.tables.Wants.{Wants}
 use Rattle.rules.specs.declared.tables.Wants.TheVariants.{Func, Every}
-use Rattle.rules.specs.Tables.{wanted_by}
-use Rattle.rules.specs.Expr.{out, compile_expr, compile_args, check_type, var_node, text_node, number_node, func_notes, func_node, opt_real_sym, user_call, binary_node, unary_node, index_node, index_place, var_place, compile_lvalue}
+use Rattle.rules.specs.Expr.{out, compile_expr, check_type, var_node, text_node, number_node, func_notes, func_node, opt_real_sym, user_call, binary_node, unary_node, index_node, index_place, var_place, compile_lvalue}
 use Rattle.std.specs.Prelude.{Option}
-use Rattle.nodes.specs.Compiled.{named, opt_of, Compiled, CompiledArgs, CompiledTyped, CompiledPlace, PlaceTyped, OpAt, PayloadAt}
-use Rattle.expressions.proofs.Lists.{exprs_step, repeat_step}
+use Rattle.nodes.specs.Compiled.{named, opt_of, Compiled, CompiledArgs, CompiledPlace, OpAt, PayloadAt}
 
 -- a node's case, its range, and the place behind both
 pub record Head (s : List ℕ) (left at k : ℕ) (r : Range) (p : ℕ) : Type 0 where
@@ -67,10 +64,6 @@ pub how_many_lem : (s : List ℕ) (f : ℕ → Expr) (g : ℕ → ℕ) (n at : �
 unfolding exprs_at count
 how_many_lem s f g zero at = refl
 how_many_lem s f g (suc n) at = ap suc (how_many_lem s f g n (g at))
-
-pub at_zero : (s t : List ℕ) (base left at : ℕ) (m : Mem) → left ≡ 0 → Compiled s t base left at m m at Error
-unfolding expr_at skip_node compile_expr
-at_zero s t base left at m e = rw e (record { place = refl; result = refl })
 
 pub at_var : (s t : List ℕ) (base left at k : ℕ) (r : Range) (p : ℕ) (m m1 : Mem) (ty : Ty) → Head s left at k r p → k ≡ 0 → out m1 ty ≡ var_node (mem_r t) t base r m
     → Compiled s t base left at m m1 p ty
@@ -157,41 +150,7 @@ at_other s t base left at k r p m h n =
     other s (expr_at s (left - 1)) (skip_node s (left - 1) exprSort) (skip_node s (left - 1)) k (k - 9) r p (omega arith) in
     record { place = rw (over s left at k r p h, o.1); result = rw (node s left at k r p h, o.0) }
 
--- one turn of the loop over arguments: n are left, the i-th is next
-pub step_place : (s t : List ℕ) (base left n at p : ℕ) (m m1 : Mem) (ty : Ty) → 0 < n → Compiled s t base left at m m1 p ty
-    → skip_repeat s (skip_node s left exprSort) (n - 1) p ≡ skip_repeat s (skip_node s left exprSort) n at
-step_place s t base left n at p m m1 ty h x = rw (repeat_step s (skip_node s left exprSort) n at h, x.place)
-
-args_more : (t : List ℕ) (base : ℕ) (want : ℕ → Ty) (i : ℕ) (e : Expr) (es : Exprs) (m : Mem) → compile_args (mem_r t) t base want i (more e es) m
-    ≡ compile_args (mem_r t) t base want (suc i) es (check_type (mem_r t) t base (want i) (expr_range e) (compile_expr (mem_r t) t base e m).ty (compile_expr (mem_r t) t base e m).state)
-unfolding compile_args
-args_more t base want i e es m = refl
-
-pub step_args : (s t : List ℕ) (base left n at p i : ℕ) (r : Range) (w : Wants) (v : Ty) (m m1 m2 : Mem) (ty : Ty) → 0 < n → Compiled s t base left at m m1 p ty → v ≡ wanted_by w i
-    → r ≡ range_at s (next s at) → m2 ≡ check_type (mem_r t) t base v r ty m1
-    → compile_args (mem_r t) t base (wanted_by w) (i + 1) (args_at s left (n - 1) p) m2
-    ≡ compile_args (mem_r t) t base (wanted_by w) i (args_at s left n at) m
-step_args s t base left n at p i r w v m m1 m2 ty h x hv hr e =
-    rw (exprs_step s (expr_at s left) (skip_node s left exprSort) n at h, args_more, add-one, ← x.place, ← x.result, range_of_lem s left at, ← hr, e, hv)
-
-pub none_left : (s t : List ℕ) (base left n k at at₀ i : ℕ) (w : Wants) (m m₀ : Mem) → n ≤ 0 → skip_repeat s (skip_node s left exprSort) n at ≡ skip_repeat s (skip_node s left exprSort) k at₀
-    → compile_args (mem_r t) t base (wanted_by w) i (args_at s left n at) m
-    ≡ compile_args (mem_r t) t base (wanted_by w) 0 (args_at s left k at₀) m₀
-    → CompiledArgs s t base left at₀ k w m₀ m at
-unfolding exprs_at compile_args skip_repeat
-none_left s t base left zero k at at₀ i w m m₀ h p q = record { place = p; result = q }
-none_left s t base left (suc n) k at at₀ i w m m₀ h p q = absurd (omega arith)
-
--- an expression of which a kind is wanted
-pub typed_of : (s t : List ℕ) (base left at : ℕ) (want : Ty) (r : Range) (p : ℕ) (m m1 m2 : Mem) (ty : Ty) → Compiled s t base left at m m1 p ty → r ≡ range_at s (next s at)
-    → m2 ≡ check_type (mem_r t) t base want r ty m1 → CompiledTyped s t base left at want m m2 p
-typed_of s t base left at want r p m m1 m2 ty x hr e = record { place = x.place; result = rw (← x.result, range_of_lem s left at, ← hr, e) }
-
 -- places to store
-pub place_zero : (s t : List ℕ) (base left at : ℕ) (m : Mem) → left ≡ 0 → CompiledPlace s t base left at m m at Error
-unfolding expr_at skip_node compile_lvalue
-place_zero s t base left at m e = rw e (record { place = refl; result = refl })
-
 pub place_var : (s t : List ℕ) (base left at k : ℕ) (r : Range) (p : ℕ) (m m1 : Mem) (ty : Ty) → Head s left at k r p → k ≡ 0 → out m1 ty ≡ var_place (mem_r t) t base r m
     → CompiledPlace s t base left at m m1 p ty
 unfolding expr_node compile_lvalue skip_fields expr_fields
@@ -228,7 +187,3 @@ pub place_other : (s t : List ℕ) (base left at k : ℕ) (r : Range) (p q : ℕ
     → CompiledPlace s t base left at m m q Error
 place_other s t base left at k r p q m h a b e =
     record { place = e; result = rw (node s left at k r p h) (not_place s t base (expr_at s (left - 1)) (skip_node s (left - 1) exprSort) k r p m a b) }
-
-pub place_typed_of : (s t : List ℕ) (base left at : ℕ) (want : Ty) (r : Range) (p : ℕ) (m m1 m2 : Mem) (ty : Ty) → CompiledPlace s t base left at m m1 p ty → r ≡ range_at s (next s at)
-    → m2 ≡ check_type (mem_r t) t base want r ty m1 → PlaceTyped s t base left at want m m2 p
-place_typed_of s t base left at want r p m m1 m2 ty x hr e = record { place = x.place; result = rw (← x.result, range_of_lem s left at, ← hr, e) }

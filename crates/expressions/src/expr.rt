@@ -1,5 +1,6 @@
 // compile_expr of compiler.rs: an expression and its list of arguments call each other; the remaining depth falls. Here and in the
-// statements sheet and text are passed on as `&&`, one register each, and a number returned is the place behind.
+// statements a number returned is the place behind. `at` moves with each call, `left` falls only where a child is entered: as one struct
+// they would be put together anew at each.
 ghost use Rattle.std.specs.Prelude.{◌≡◌};
 ghost use Rattle.recorder.specs.CodeGen.{mem_of, SameLoans};
 ghost use Rattle.recorder.specs.Word.{range_at, next};
@@ -14,7 +15,8 @@ use rules::tables::Wants;
 use rules::types::Type;
 use sheet::form::ExprKind;
 
-// What an expression leaves besides the state: the place behind it, its kind.
+// What an expression leaves besides the state: the place behind it, its kind. As Payload, Op, Branch and Step: what was read, and the
+// place behind. One generic struct would call all of it value.
 #[derive(Clone, Copy)]
 pub struct TypedBehind {
     pub at: usize,
@@ -29,14 +31,16 @@ struct Op {
     at: usize,
 }
 
-// A word's payload, and the place behind the word.
+// A word's payload, and the place behind the word. A list's count and first place go on as two numbers: loops use them apart, and a
+// struct goes through memory.
 #[derive(Clone, Copy)]
 pub struct Payload {
     pub value: u32,
     pub at: usize,
 }
 
-// The range of the expression or statement at a place: the word behind its head.
+// The range of the expression or statement at a place: the word behind its head. What reads takes the sheet and a place, as
+// recorder::word does, since a place alone is returned and handed on.
 pub fn node_range(sheet: &[u32], at: usize) -> Range
     ensures { result ≡ range_at sheet.now (next sheet.now at) }
 {
@@ -73,7 +77,10 @@ fn mantissa_at(sheet: &[u32], at: usize) -> u32
     h % 65536 * 65536 + l % 65536
 }
 
+// A node's number, range and place behind are read line by line, here and in four more functions: a struct of them would be taken apart
+// at once.
 #[cycle(expr_cycle)]
+#[tactic(auto, unfolding(sheet::specs::Tree::expr_at, sheet::specs::Skip::skip_node, rules::specs::Expr::compile_expr))]
 pub fn compile_expr(src: &Source, code: &mut CodeGen, at: usize, left: usize) -> TypedBehind
     ensures same { SameLoans code.old code.new }
     ensures value { Compiled src.now.sheet.now src.now.text.now src.now.base left at (mem_of code.old) (mem_of code.new) result.at result.ty }
@@ -125,7 +132,7 @@ pub fn compile_expr(src: &Source, code: &mut CodeGen, at: usize, left: usize) ->
             let x = compile_expr(src, code, q, left - 1);
             let xt = x.ty;
             nodes::node::check_type(code, Type::Real, node_range(src.sheet, q), xt);
-            nodes::node::user_call(code, o, r, y);
+            nodes::node::user_call(code, y, r);
             TypedBehind {
                 at: x.at,
                 ty: Type::Real,
@@ -172,8 +179,11 @@ pub fn compile_expr(src: &Source, code: &mut CodeGen, at: usize, left: usize) ->
     }
 }
 
-// So many expressions, each with a note where its kind is not the one wanted.
+// So many expressions, each with a note where its kind is not the one wanted. `wants` is an enum, no closure: the contract names its rule
+// (wanted_by), and the cycle has no type parameter. accept_fields' lists share a loop over a closure. Here the closure would write code,
+// of which a contract says only that it was called.
 #[cycle(expr_cycle)]
+#[tactic(auto, unfolding(sheet::specs::Skip::skip_repeat, sheet::specs::Tree::exprs_at, rules::specs::Expr::compile_args), using(crate::proofs::Lists::turns, crate::proofs::ExprLaws::range_of_lem))]
 pub fn compile_args(
     src: &Source,
     code: &mut CodeGen,
@@ -196,7 +206,9 @@ pub fn compile_args(
     p
 }
 
-// An expression of which a kind is wanted.
+// An expression of which a kind is wanted. Its lines stand in compile_args and at a user function's argument, too: called from there it
+// would be a third in the cycle.
+#[tactic(auto, using(crate::proofs::ExprLaws::range_of_lem))]
 pub fn compile_typed(src: &Source, code: &mut CodeGen, at: usize, left: usize, want: Type) -> usize
     ensures same { SameLoans code.old code.new }
     ensures value { CompiledTyped src.now.sheet.now src.now.text.now src.now.base left at want (mem_of code.old) (mem_of code.new) result }
@@ -208,7 +220,9 @@ pub fn compile_typed(src: &Source, code: &mut CodeGen, at: usize, left: usize, w
     x.at
 }
 
-// compile_lvalue: a place to store, which is a variable or an array's element; anything else makes nothing.
+// compile_lvalue: a place to store, which is a variable or an array's element; anything else makes nothing. The three lines on an
+// element's subscripts stand in compile_expr and DIM's dim_one, too: a function for them would be a third in the cycle.
+#[tactic(auto, unfolding(sheet::specs::Tree::expr_at, sheet::specs::Skip::skip_node, rules::specs::Expr::compile_lvalue))]
 pub fn compile_lvalue(src: &Source, code: &mut CodeGen, at: usize, left: usize) -> TypedBehind
     ensures same { SameLoans code.old code.new }
     ensures value { CompiledPlace src.now.sheet.now src.now.text.now src.now.base left at (mem_of code.old) (mem_of code.new) result.at result.ty }
@@ -241,7 +255,9 @@ pub fn compile_lvalue(src: &Source, code: &mut CodeGen, at: usize, left: usize) 
     }
 }
 
-// A place to store of which a kind is wanted.
+// A place to store of which a kind is wanted: compile_typed over compile_lvalue. One over both would take the function, and state its
+// contract again as a premise.
+#[tactic(auto, using(crate::proofs::ExprLaws::range_of_lem))]
 pub fn place_typed(src: &Source, code: &mut CodeGen, at: usize, left: usize, want: Type) -> usize
     ensures same { SameLoans code.old code.new }
     ensures value { PlaceTyped src.now.sheet.now src.now.text.now src.now.base left at want (mem_of code.old) (mem_of code.new) result }

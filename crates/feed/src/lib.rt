@@ -15,7 +15,7 @@ ghost use Rattle.feed.specs.Text.{row_text, rows_text};
 use std::io::ErrorKind;
 use std::{fmt, io};
 
-/// How many bytes the widest of the numbers below stands in.
+/// How many bytes the widest of the numbers below stands in: an array cannot be as long as a type parameter's WIDTH.
 const WIDEST: usize = 4;
 
 /// A number that stands in so many bytes, the lowest first.
@@ -219,7 +219,8 @@ impl fmt::Display for Row<'_> {
     }
 }
 
-/// So many of the rows, each on a line.
+/// So many of the rows, each on a line. The count is cut here, once for three calls: an answer's type does not say that its counts
+/// are within the buffers.
 pub fn print_rows<const SIZE: usize, W: io::Write>(
     out: &mut W,
     mark: &str,

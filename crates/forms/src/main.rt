@@ -10,7 +10,8 @@ use feed::Input;
 use std::io;
 use std::io::{BufReader, BufWriter, Write};
 
-// The number of a refusal, 0 for none, and its place, on a line.
+// The number of a refusal and its place, on a line. 0 and 0 where nothing is refused are the line's form, which the oracle's
+// stored output has, too.
 fn print_refusal<W: Write>(out: &mut W, number: u32, place: usize) -> io::Result<()>
     ensures { OnOk result (Appends (W.contents out.old) (W.contents out.new)
         (line_of (decimal number ++ next_text place))) }
@@ -28,6 +29,7 @@ fn answer<W: Write>(out: &mut W, input: Input<'_>) -> io::Result<()> {
 
 // The arrays are one longer than what is accepted, so too much is told as such. Nothing says that the input ends, so the turns are
 // counted up to a number that no run uses up.
+// replay has the same loop: one in feed would take a closure that writes and may fail, and ask in public that it may be called.
 fn main(rt: HostRuntime) -> io::Result<()> {
     let mut words = [0u32; 65537];
     let mut units = [0u16; 65537];

@@ -2,7 +2,7 @@
 use mathlib.Core.Path.{◌≡◌, refl, sym as inv, ap, ◌∙◌}
 use mathlib.Core.List.{List}
 use mathlib.Core.Bool.{Bool, true, false}
-use Prim.Native.Nat.{ℕ, zero, suc, ◌-◌, ◌≤◌, ◌<◌}
+use Prim.Native.Nat.{ℕ, zero, suc, ◌-◌}
 use lib.Dec.{eqb}
 use borrow.Author.Tests.{eq-eqb, ne_eqb}
 use native.Mathlib.Omega.{arith}
@@ -10,22 +10,22 @@ use Rattle.recorder.specs.declared.word.Range.{Range}
 use Rattle.recorder.specs.Word.{payload_at, range_at, next}
 use Rattle.recorder.specs.Mem.{Mem, mem_r}
 use Rattle.sheet.specs.declared.form.Item.TheVariants.{Source as source}
-use Rattle.sheet.specs.declared.form.Sort.TheVariants.{Expr as exprSort, InputPlace as inputSort}
+use Rattle.sheet.specs.declared.form.Sort.TheVariants.{Expr as exprSort}
 use Rattle.sheet.specs.declared.form.Shape.TheVariants.{Input}
 use Rattle.sheet.specs.declared.form.SourceKind.{SourceKind}
 use Rattle.sheet.specs.declared.form.SourceKind.TheVariants.{Keyboard, KeyboardWithPrompt, File}
 use Rattle.sheet.specs.Table.{source_kind}
 use Rattle.sheet.proofs.Cases.{keyboard_number, prompt_number, file_number}
 use Rattle.std.proofs.Common.{◌⊎◌, inl, inr}
-use Rattle.sheet.specs.Skip.{skip_node, skip_repeat, skip_list, skip_fields, skip_field, skip_times, skip_pair, skip_item}
-use Rattle.sheet.specs.Tree.{Expr, Stmt, expr_range, count, expr_at, expr_node, exprs_at, opt_at, stmt_node, source_of, args_at}
+use Rattle.sheet.specs.Skip.{skip_node, skip_list, skip_fields, skip_field, skip_times, skip_pair, skip_item}
+use Rattle.sheet.specs.Tree.{Expr, Stmt, expr_range, count, expr_at, expr_node, opt_at, stmt_node, source_of, args_at}
 use Rattle.rules.specs.declared.types.«Type».{«Type» as Ty}
 use Rattle.rules.specs.Expr.{opt_real_sym, compile_lvalue}
-use Rattle.rules.specs.Stmt.{compile_stmt, is_ident, is_file, input_arg_by, fn_place, input_fn, fn_input, input_var, input_vars, input_source, compile_input}
+use Rattle.rules.specs.Stmt.{compile_stmt, is_ident, is_file, input_arg_by, fn_place, input_fn, fn_input, input_var, input_source, compile_input}
 use Rattle.std.specs.Prelude.{Option}
 use Rattle.nodes.specs.Compiled.{named, opt_of, CompiledPlace, PayloadAt}
 use Rattle.expressions.specs.Body.{Body}
-use Rattle.expressions.proofs.Lists.{exprs_step, input_same, repeat_same, exprs_same}
+use Rattle.expressions.proofs.Lists.{input_same}
 use Rattle.expressions.proofs.ExprLaws.{Head, node, range_of_lem, how_many_lem}
 use Rattle.inputs.specs.Parts.{Taken, TakenAll}
 
@@ -100,23 +100,6 @@ taken_place s t base left at k r p q b m m1 ty h n x =
     let left_is : m1 ≡ (compile_lvalue (mem_r t) t base (expr_at s left at) m).state = ap (λ z. z.state) x.result in
     record { place = x.place; result = left_is ∙ same }
 
-vars_more : (s t : List ℕ) (base left n at : ℕ) (b : Bool) (m : Mem) → 0 < n → input_vars (mem_r t) t base b (args_at s left n at) m
-    ≡ input_vars (mem_r t) t base b (args_at s left (n - 1) (skip_node s left exprSort at)) (input_var (mem_r t) t base b (expr_at s left at) m)
-unfolding input_vars
-vars_more s t base left n at b m h = rw (exprs_step s (expr_at s left) (skip_node s left exprSort) n at h)
-
-pub step_taken : (s t : List ℕ) (base left n at p : ℕ) (b : Bool) (m m1 : Mem) → 0 < n → Taken s t base left at b m m1 p
-    → input_vars (mem_r t) t base b (args_at s left (n - 1) p) m1
-    ≡ input_vars (mem_r t) t base b (args_at s left n at) m
-step_taken s t base left n at p b m m1 h x = rw (vars_more s t base left n at b m h, ← x.place, ← x.result)
-
-pub taken_all : (s t : List ℕ) (base left n k at at₀ : ℕ) (b : Bool) (m m₀ : Mem) → n ≤ 0 → skip_repeat s (skip_node s left exprSort) n at ≡ skip_repeat s (skip_node s left exprSort) k at₀
-    → input_vars (mem_r t) t base b (args_at s left n at) m ≡ input_vars (mem_r t) t base b (args_at s left k at₀) m₀
-    → TakenAll s t base left at₀ k b m₀ m at
-unfolding exprs_at input_vars skip_repeat
-taken_all s t base left zero k at at₀ b m m₀ h p q = record { place = p; result = q }
-taken_all s t base left (suc n) k at at₀ b m m₀ h p q = absurd (omega arith)
-
 -- its source
 pub first : (s : List ℕ) (at k : ℕ) → k ≡ payload_at s at → Keyboard ≡ source_kind k → payload_at s at ≡ 0
 first s at k e h = inv e ∙ keyboard_number k h
@@ -127,21 +110,18 @@ second s at k e h = inv e ∙ prompt_number k h
 pub third : (s : List ℕ) (at k : ℕ) → k ≡ payload_at s at → File ≡ source_kind k → payload_at s at ≡ suc (suc (k - 2))
 third s at k e h = inv e ∙ file_number k h
 
-pub no_file : (s : List ℕ) (left : ℕ) (child : ℕ → Stmt) (k p : ℕ) (x : SourceKind) → x ≡ source_kind k → (x ≡ Keyboard) ⊎ (x ≡ KeyboardWithPrompt) → false ≡ is_file (source_of s left child k p)
-no_file s left child k p x e (inl h) = rw (keyboard_number k (inv h ∙ e))
-no_file s left child k p x e (inr h) = rw (prompt_number k (inv h ∙ e))
+pub no_file : (s : List ℕ) (at k : ℕ) (x : SourceKind) → k ≡ payload_at s at → x ≡ source_kind k → (x ≡ File → ⊥) → (payload_at s at ≡ 0) ⊎ (payload_at s at ≡ 1)
+no_file s at k Keyboard e h d = inl (inv e ∙ keyboard_number k h)
+no_file s at k KeyboardWithPrompt e h d = inr (inv e ∙ prompt_number k h)
+no_file s at k File e h d = absurd (d refl)
 
 pub at_input : (s t : List ℕ) (base left k at : ℕ) (r : Range) (q n p p1 : ℕ) (b : Bool) (m m1 m2 : Mem) → q ≡ skip_item s (skip_node s left) source at
     → ((child : ℕ → Stmt) → b ≡ is_file (source_of s left child (payload_at s at) (next s at))) → PayloadAt s q n p → TakenAll s t base left p n b m m1 p1
     → ((child : ℕ → Stmt) → m2 ≡ input_source (mem_r t) t base r n (source_of s left child (payload_at s at) (next s at)) m1) → Body s t base left Input k r at m m2 p1
 unfolding stmt_node compile_stmt compile_input skip_fields skip_field skip_times skip_pair skip_item skip_list
 at_input s t base left k at r q n p p1 b m m1 m2 hq hb c d e =
-    let places : skip_repeat s (skip_node s left inputSort) n p ≡ skip_repeat s (skip_node s left exprSort) n p =
-    repeat_same s (skip_node s left inputSort) (skip_node s left exprSort) (λ z. input_same s left z) n p in
-    let vars : exprs_at s (expr_at s left) (skip_node s left inputSort) n p ≡ args_at s left n p =
-    exprs_same s (expr_at s left) (skip_node s left inputSort) (skip_node s left exprSort) (λ z. input_same s left z) n p in
     let count_is : count (args_at s left n p) ≡ n = how_many_lem s (expr_at s left) (skip_node s left exprSort) n p in
     record {
-      place = rw (← hq, ← c.place, ← c.value, places) d.place;
-      result = λ child. rw (← hq, ← c.place, ← c.value, vars, count_is, ← hb child, ← d.result) (e child);
+      place = rw (input_same s left, ← hq, ← c.place, ← c.value) d.place;
+      result = λ child. rw (input_same s left, ← hq, ← c.place, ← c.value, count_is, ← hb child, ← d.result) (e child);
     }

@@ -1,5 +1,6 @@
 // INPUT: its source stands first in the sheet and is compiled last.
-ghost use Rattle.std.specs.Prelude.{◌≡◌, List, ℕ};
+ghost use Rattle.std.specs.Prelude.{◌≡◌, List, ℕ, Bool, Option, is_some, unwrap_or};
+ghost use Rattle.recorder.specs.declared.word.Range.{Range};
 ghost use Rattle.recorder.specs.Word.{payload_at, range_at, next};
 ghost use Rattle.recorder.specs.Mem.{mem_r};
 ghost use Rattle.recorder.specs.CodeGen.{mem_of, SameLoans};
@@ -17,7 +18,8 @@ use recorder::word::Range;
 use rules::types::Type;
 use sheet::form::{ExprKind, SourceKind};
 
-// Whether the expression at a place is a variable.
+// Whether the expression at a place is a variable. With no depth left an expression is an Error: prints' is_tab_spc and transfers' byte_of
+// leave first on it, too, each by its own law.
 #[tactic(auto, using(crate::proofs::InputLaws::ident_zero))]
 fn is_ident(sheet: &[u32], at: usize, left: usize) -> bool
     ensures { result ≡ is_ident (expr_at sheet.now left at) }
@@ -32,30 +34,26 @@ fn is_ident(sheet: &[u32], at: usize, left: usize) -> bool
 }
 
 // A function's argument, which must be a variable: else class 12.
-fn input_arg(src: &Source, code: &mut CodeGen, ident: bool, r: Range) -> u32
+fn input_arg(src: &Source, code: &mut CodeGen, ident: bool, r: Range) -> Option<u32>
     ensures same { SameLoans code.old code.new }
-    ensures value { (e : Expr) → expr_range e ≡ r → named (mem_of code.new) result ≡ input_arg_by (mem_r src.now.text.now) src.now.text.now src.now.base ident e (mem_of code.old) }
+    ensures told { ident ≡ is_some result }
+    ensures value { (e : Expr) → expr_range e ≡ r → named (mem_of code.new) (unwrap_or result 0) ≡ input_arg_by (mem_r src.now.text.now) src.now.text.now src.now.base ident e (mem_of code.old) }
 {
     if ident {
-        nodes::node::real_sym(src, code, r)
+        Some(nodes::node::real_sym(src, code, r))
     } else {
         code.note(Class::NotAllowed, r);
-        0
+        None
     }
 }
 
 // A function of a variable to store to: call 9.
-fn fn_place(code: &mut CodeGen, o: Option<Range>, ident: bool, r: Range, n: u32, a: u32)
+fn fn_place(code: &mut CodeGen, f: Option<u32>, a: Option<u32>, r: Range)
     ensures same { SameLoans code.old code.new }
-    ensures value { (t : List ℕ) (base : ℕ) → mem_of code.new ≡ fn_place (mem_r t) t base (opt_of o) ident r n a (mem_of code.old) }
+    ensures value { (t : List ℕ) (base : ℕ) (o : Option Range) (ident : Bool) → is_some o ≡ is_some f → ident ≡ is_some a → mem_of code.new ≡ fn_place (mem_r t) t base (opt_of o) ident r (unwrap_or f 0) (unwrap_or a 0) (mem_of code.old) }
 {
-    match o {
-        Some(_) => {
-            if ident {
-                code.emit(r, Call::FnLvalue(n, a))
-            }
-        }
-        None => {}
+    if let (Some(f), Some(a)) = (f, a) {
+        code.emit(r, Call::FnLvalue(f, a))
     }
 }
 
@@ -70,7 +68,7 @@ fn input_fn(src: &Source, code: &mut CodeGen, at: usize, left: usize, r: Range)
     let i = is_ident(src.sheet, q, left);
     let ar = expressions::expr::node_range(src.sheet, q);
     let y = input_arg(src, code, i, ar);
-    fn_place(code, o, i, r, x, y)
+    fn_place(code, x, y, r)
 }
 
 // From a file no function is read: class 12.
@@ -107,6 +105,9 @@ fn input_var(src: &Source, code: &mut CodeGen, at: usize, left: usize, file: boo
     }
 }
 
+// So many places of INPUT from a place on.
+// accept_fields' lists share a loop over a closure. Here the closure would write code, of which a contract says only that it was called.
+#[tactic(auto, unfolding(sheet::specs::Skip::skip_repeat, sheet::specs::Tree::exprs_at, rules::specs::Stmt::input_vars), using(expressions::proofs::Lists::turns))]
 fn input_vars(src: &Source, code: &mut CodeGen, at: usize, n: u32, left: usize, file: bool) -> usize
     ensures same { SameLoans code.old code.new }
     ensures value { TakenAll src.now.sheet.now src.now.text.now src.now.base left at n file (mem_of code.old) (mem_of code.new) result }
@@ -134,21 +135,19 @@ fn input_source(src: &Source, code: &mut CodeGen, at: usize, left: usize, r: Ran
             code.emit(r, Call::KeyboardInput(true, n))
         }
         SourceKind::File => {
-            let x = expressions::expr::compile_typed(src, code, p, left, Type::Real);
+            expressions::expr::compile_typed(src, code, p, left, Type::Real);
             code.emit(r, Call::FileInput(n))
         }
     }
 }
 
-// Two of the three sources are the keyboard.
-#[tactic(auto, using(crate::proofs::InputLaws::third))]
+// Whether the source is a file.
+#[tactic(auto, using(crate::proofs::InputLaws::third, crate::proofs::InputLaws::no_file))]
 fn is_file(sheet: &[u32], at: usize) -> bool
     ensures { (left : ℕ) (child : ℕ → Stmt) → result ≡ is_file (source_of sheet.now left child (payload_at sheet.now at) (next sheet.now at)) }
 {
-    match SourceKind::of(recorder::word::payload_at(sheet, at)) {
-        SourceKind::Keyboard | SourceKind::KeyboardWithPrompt => false,
-        SourceKind::File => true,
-    }
+    let kind = SourceKind::of(recorder::word::payload_at(sheet, at));
+    matches!(kind, SourceKind::File)
 }
 
 // Its variables stand behind its source and are compiled before it.

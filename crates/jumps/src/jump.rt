@@ -1,7 +1,6 @@
 // Statements with labels: GOSUB, GOTO, RESTORE and ON. A jump waits for its label.
 ghost use Rattle.std.specs.Prelude.{◌≡◌, List, ℕ};
 ghost use Rattle.recorder.specs.Word.{label_at, flag_of};
-ghost use Rattle.recorder.specs.Recorder.{pack};
 ghost use Rattle.recorder.specs.Mem.{mem_r};
 ghost use Rattle.recorder.specs.CodeGen.{mem_of, SameLoans};
 ghost use Rattle.sheet.specs.Skip.{skip_repeat};
@@ -52,28 +51,19 @@ fn opt_label_at(sheet: &[u32], at: usize) -> Option<Label>
     }
 }
 
-// A range as one number.
-pub fn packed(r: Range) -> u32
-    ensures { result ≡ pack r }
-{
-    (r.start as u32) * 65536 + (r.end as u32)
-}
-
-// A jump that waits for its label: GOSUB or GOTO.
+// A jump that waits for its label: GOSUB or GOTO. `sub` is the statement's, `r` in an ON each item's own, so they are no struct.
 fn pending_jump(code: &mut CodeGen, sub: bool, r: Range, l: Label, lr: Range)
     ensures same { SameLoans code.old code.new }
     ensures value { (t : List ℕ) (base : ℕ) → mem_of code.new ≡ pending_jump (mem_r t) t base (flag_of sub) r l.0 lr (mem_of code.old) }
 {
-    let w = packed(lr);
-    let v = (l.0 as u32) + 1;
     if sub {
-        code.emit(r, Call::Gosub(v, w))
+        code.emit(r, Call::Gosub(Some((lr, l))))
     } else {
-        code.emit(r, Call::Goto(v, w))
+        code.emit(r, Call::Goto(Some((lr, l))))
     }
 }
 
-// An absent label is label 0, and a note on it has the statement's range.
+// An absent label is label 0, and a note on it has the statement's range. Document 01 names let .. else for GOTO's label.
 fn compile_go(code: &mut CodeGen, r: Range, sub: bool, o: Option<(Range, Label)>)
     ensures same { SameLoans code.old code.new }
     ensures value { (t : List ℕ) (base : ℕ) → mem_of code.new ≡ compile_go (mem_r t) t base r (flag_of sub) (target_of o) (mem_of code.old) }
@@ -85,6 +75,7 @@ fn compile_go(code: &mut CodeGen, r: Range, sub: bool, o: Option<(Range, Label)>
     pending_jump(code, sub, r, l, lr)
 }
 
+// GOSUB, GOTO and RESTORE have three lines each, for their shapes' rules: one over what is made of the target would take that, too.
 #[tactic(auto, unfolding(sheet::specs::Tree::stmt_node, rules::specs::Stmt::compile_stmt, sheet::specs::Skip::skip_fields, sheet::specs::Skip::skip_field, sheet::specs::Skip::skip_times, sheet::specs::Skip::skip_pair, sheet::specs::Skip::skip_item))]
 pub fn compile_gosub(src: &Source, code: &mut CodeGen, at: usize, r: Range) -> usize
     ensures same { SameLoans code.old code.new }
@@ -107,17 +98,16 @@ pub fn compile_goto(src: &Source, code: &mut CodeGen, at: usize, r: Range) -> us
     behind_target(src.sheet, p)
 }
 
+// Document 01 names let .. else for RESTORE's label.
 fn restore_node(code: &mut CodeGen, r: Range, o: Option<(Range, Label)>)
     ensures same { SameLoans code.old code.new }
     ensures value { (t : List ℕ) (base : ℕ) → mem_of code.new ≡ compile_restore (mem_r t) t base r (target_of o) (mem_of code.old) }
 {
     let Some((lr, l)) = o else {
-        code.emit(r, Call::Restore(0, 0));
+        code.emit(r, Call::Restore(None));
         return;
     };
-    let w = packed(lr);
-    let v = (l.0 as u32) + 1;
-    code.emit(r, Call::Restore(v, w))
+    code.emit(r, Call::Restore(Some((lr, l))))
 }
 
 pub fn compile_restore(src: &Source, code: &mut CodeGen, at: usize, r: Range) -> usize
@@ -129,6 +119,7 @@ pub fn compile_restore(src: &Source, code: &mut CodeGen, at: usize, r: Range) ->
     behind_target(src.sheet, at)
 }
 
+// Document 01 names let .. else for ON's label, too: over compile_go the label would be paired first, to be taken apart there.
 fn on_jump(code: &mut CodeGen, sub: bool, r: Range, o: Option<Label>)
     ensures same { SameLoans code.old code.new }
     ensures value { (t : List ℕ) (base : ℕ) → mem_of code.new ≡ pending_jump (mem_r t) t base (flag_of sub) r (label_or0 (label_of o)) r (mem_of code.old) }
@@ -140,7 +131,8 @@ fn on_jump(code: &mut CodeGen, sub: bool, r: Range, o: Option<Label>)
     pending_jump(code, sub, r, l, r)
 }
 
-// So many targets, a jump each.
+// So many targets, a jump each. It writes code, so no one loop over a closure stands for this and its like: of a closure's calls a
+// contract says only that they ran. The words are counted on any sheet: behind its end the place stays, where an iterator would end.
 fn on_jumps(src: &Source, code: &mut CodeGen, at: usize, n: u32, sub: bool)
     ensures same { SameLoans code.old code.new }
     ensures value { (t : List ℕ) (base : ℕ) → mem_of code.new ≡ on_jumps (mem_r t) t base (flag_of sub) (on_targets_at src.now.sheet.now n at) (mem_of code.old) }
@@ -155,7 +147,8 @@ fn on_jumps(src: &Source, code: &mut CodeGen, at: usize, n: u32, sub: bool)
     }
 }
 
-// The place behind so many targets.
+// The place behind so many targets: two words each, and the end stays; a sum would need bounds of its own against the sheet's end.
+#[tactic(auto, unfolding(sheet::specs::Skip::skip_repeat), using(expressions::proofs::Lists::turns))]
 fn behind_targets(sheet: &[u32], at: usize, n: u32) -> usize
     ensures { result ≡ skip_repeat sheet.now (two_on sheet.now) n at }
 {

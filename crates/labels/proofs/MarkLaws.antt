@@ -11,11 +11,12 @@ use native.Mathlib.Omega.{arith}
 use Rattle.std.specs.Prelude.{Option, None, Some}
 use Rattle.std.specs.Option.{SomeIff, option_or}
 use Rattle.recorder.specs.declared.label.DatumIndex.{DatumIndex}
+use Rattle.recorder.specs.Word.{plus_one}
 use Rattle.recorder.specs.Ideal.{Search, missing, found}
 use Rattle.recorder.specs.Marks.{Mark, or_else, addr_of, data_of}
 use Rattle.labels.specs.MarkWords.{target_found, start_found}
 use Rattle.labels.specs.MarksIn.{MarksIn}
-use Rattle.labels.specs.Chains.{line_of, label_of, last_in, Chained, plus_one}
+use Rattle.labels.specs.Chains.{line_of, label_of, last_in, Chained}
 use Rattle.labels.proofs.MarkSearch.{chain_start, chain_step, last_within, or_missing, data_or, datum_here, addrs, addrs_skip, data_skip, Seeking, seek_head, seek_link, word_label, word_link, addr_here, addr_past, data_past}
 
 -- the chains: none yet, one line more

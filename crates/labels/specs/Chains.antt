@@ -1,5 +1,5 @@
 -- The labelled lines as they stand in the work while labels are looked up: in chains.
-use Rattle.std.specs.Prelude.{◌≡◌, List, true, ℕ, zero, suc, ◌+◌, ◌*◌, ◌-◌, ◌/◌, ◌%◌, ◌≤◌, ◌<◌, min, ltb, eqb, length, get_or, Option, None, Some}
+use Rattle.std.specs.Prelude.{◌≡◌, List, true, ℕ, zero, suc, ◌+◌, ◌*◌, ◌-◌, ◌/◌, ◌%◌, ◌≤◌, ◌<◌, min, ltb, eqb, length, get_or}
 use Rattle.recorder.specs.Word.{pick}
 use Rattle.recorder.specs.Marks.{Mark, mark}
 use Rattle.labels.specs.MarksIn.{narrow}
@@ -35,8 +35,3 @@ pub record Chained (w : List ℕ) (n h j : ℕ) (ms : List Mark) : Type 0 where
 -- So many chains for n lines in so many words: two for each and some, one more than a multiple of 30, but no more than words are free.
 abbrev pub chain_count : ℕ → ℕ → ℕ
 chain_count n words = min (n / 15 * 30 + 31) (words - 3 * n)
-
--- the place of a line that there may be, plus 1, 0 if there is none
-abbrev pub plus_one : Option ℕ → ℕ
-plus_one None = 0
-plus_one (Some k) = suc k

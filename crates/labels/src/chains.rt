@@ -1,17 +1,18 @@
 // For closing up the labelled lines are put into chains by their labels. What compiler.rs keeps in its maps of labels and of DATA
-// starts.
+// starts: lent words stand in for the maps, since there is no heap.
 ghost use Rattle.std.specs.Prelude.{◌≡◌, ◌+◌, ◌*◌, ◌<◌, ◌≤◌, ◌%◌, List, ℕ, IfSome, eqb, length, get_or};
-ghost use Rattle.recorder.specs.Word.{pick};
+ghost use Rattle.recorder.specs.Word.{pick, plus_one};
 ghost use Rattle.recorder.specs.Ideal.{missing};
 ghost use Rattle.recorder.specs.Marks.{Mark, addr_of, data_of, datum_from};
 ghost use Rattle.labels.specs.MarkWords.{marked_lines, target_found, start_found};
 ghost use Rattle.labels.specs.MarksIn.{MarksIn};
-ghost use Rattle.labels.specs.Chains.{line_of, label_of, last_in, chain_count, plus_one};
+ghost use Rattle.labels.specs.Chains.{line_of, label_of, last_in, chain_count};
 
 use recorder::label::{Addr, DatumIndex, Label};
 use recorder::word::word_at;
 
-// The labelled lines in chains: the words that they stand in, how many lines and how many chains there are.
+// The labelled lines in chains: the words that they stand in, how many lines and how many chains there are. Which marks the words hold
+// (Indexed) is no ghost field: index_lines takes any words, and the searches' clauses name the marks.
 #[derive(Clone, Copy)]
 pub struct Chains<'a> {
     work: &'a [u32],
@@ -24,7 +25,8 @@ impl<'a> Chains<'a> {
     ghost use Rattle.labels.specs.Indexed.{Indexed};
 
     // Every line becomes the head of its chain, in order, and keeps the one that was, as a link above its label. The heads stand
-    // in the words that the lines leave free.
+    // in the words that the lines leave free. n stays beside work, as in put_mark.
+    #[tactic(auto, using(crate::proofs::MarkLaws::index_start))]
     pub fn index_lines(work: &'a mut [u32], n: usize) -> Chains<'a>
         ensures { (result.chains ≡ chain_count (marked_lines work.old n) (length work.old)) × ((ms : List Mark) → MarksIn work.old n ms → Indexed result ms) }
     {
@@ -74,6 +76,7 @@ impl<'a> Chains<'a> {
     }
 
     // The line before one in its chain; a link that leads to no earlier line ends it.
+    #[tactic(auto, using(crate::proofs::MarkLaws::less_one, crate::proofs::MarkLaws::link_is))]
     fn before(&self, line: u32) -> Option<u32>
         ensures lower { IfSome result (λ k. k < line) }
         ensures link { (ms : List Mark) → Indexed self.now ms → line < self.now.lines → plus_one result ≡ last_in self.now.chains ms (label_of ms line % self.now.chains) line }
@@ -100,7 +103,7 @@ impl<'a> Chains<'a> {
         ensures { (ms : List Mark) → Indexed self.now ms → result ≡ target_found (addr_of ms label.0) }
     {
         let mut next = self.head_of(label);
-        // The links end it, and nothing is counted; a `for` would need a count beside the chain.
+        // The links end it, and nothing is counted; a `for` would need a count beside the chain, and of successors no end is known.
         while let Some(line) = next {
             if self.has_label(line, label) {
                 return Some(Addr(self.word(line, 1)));

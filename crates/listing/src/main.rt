@@ -4,6 +4,7 @@
 ghost use Rattle.std.specs.Prelude.{◌≡◌, ◌≤◌, length, Some, OnOk, IfOk, IfSome, drop, slice_index};
 ghost use Rattle.std.specs.Io.KnownBytes.{Appends, Consumes};
 ghost use Rattle.recorder.specs.Word.{kind, payload};
+ghost use Rattle.sheet.specs.Check.{refusal_number};
 ghost use Rattle.rules.specs.Outcome.{lengths, outcome};
 ghost use Rattle.compiler.specs.Answered.{answer_of, outcome_of};
 ghost use Rattle.listing.specs.Form.{form_bytes};
@@ -12,6 +13,7 @@ ghost use Rattle.listing.specs.Text.{record_text, note_text, records_text, notes
 
 use compiler::Answer;
 use recorder::word::{Range, kind_of, payload_of, range_of};
+use sheet::form::Refusal;
 use std::io::{BufReader, BufWriter, Write};
 use std::{fmt, io};
 
@@ -97,7 +99,8 @@ fn print_records<W: Write>(out: &mut W, list: &[u32], count: u32) -> io::Result<
     Ok(())
 }
 
-// A line for each of so many notes.
+// A line for each of so many notes. Records have five words and an address, notes four and none: one function for both would take
+// size, row and address as parameters.
 fn print_notes<W: Write>(out: &mut W, notes: &[u32], count: usize) -> io::Result<()>
     ensures { OnOk result
         (Appends (W.contents out.old) (W.contents out.new) (notes_text notes.now count)) }
@@ -110,11 +113,11 @@ fn print_notes<W: Write>(out: &mut W, notes: &[u32], count: usize) -> io::Result
     Ok(())
 }
 
-fn print_refusal<W: Write>(out: &mut W, number: u32) -> io::Result<()>
+fn print_refusal<W: Write>(out: &mut W, refusal: Refusal) -> io::Result<()>
     ensures { OnOk result
-        (Appends (W.contents out.old) (W.contents out.new) (refusal_line number)) }
+        (Appends (W.contents out.old) (W.contents out.new) (refusal_line (refusal_number refusal))) }
 {
-    writeln!(out, "refused {number}")
+    writeln!(out, "refused {}", refusal.number())
 }
 
 // The listing: the refusal alone, or the records and then the notes.
@@ -132,7 +135,7 @@ fn print_listing<W: Write>(
             print_records(out, list, sizes.records)?;
             print_notes(out, notes, sizes.notes)
         }
-        Err(refusal) => print_refusal(out, refusal.number()),
+        Err(refusal) => print_refusal(out, refusal),
     }
 }
 
@@ -145,7 +148,8 @@ const NOTES: usize = 16384;
 
 const BOOK: usize = 8192;
 
-// What is lent to be written.
+// What is lent to be written. Arrays, as document 01 asks; replay's are Vecs, since the prover's stack does not hold an array of
+// 524,288 words.
 #[derive(Drop)]
 struct Buffers {
     list: [u32; LIST],
@@ -222,7 +226,7 @@ fn main(rt: HostRuntime) -> io::Result<()> {
             let answer = buffers.compile_form(form.words, form.units);
             print_listing(&mut out, answer, &buffers.list, &buffers.notes)?;
         }
-        None => print_refusal(&mut out, 1)?,
+        None => print_refusal(&mut out, Refusal::TooLong)?,
     }
     out.flush()
 }

@@ -1,26 +1,26 @@
--- FOR, NEXT and WHILE: one law for each way out.
+-- FOR and NEXT: one law for each way out.
 use mathlib.Core.Path.{◌≡◌, refl, sym as inv, ap, ◌∙◌}
 use mathlib.Core.List.{List}
 use mathlib.Core.Bool.{Bool, true, false}
-use Prim.Native.Nat.{ℕ, zero, suc, ◌*◌, ◌-◌, ◌%◌, ◌≤◌, ◌<◌}
+use Prim.Native.Nat.{ℕ, zero, suc, ◌*◌, ◌%◌, ◌<◌}
 use lib.ListN.{get_or, length}
 use lib.Dec.{ltb}
 use native.Mathlib.Omega.{arith}
 use Rattle.recorder.specs.declared.word.Range.{Range}
 use Rattle.recorder.specs.declared.codegen.State.{State}
 use Rattle.recorder.specs.Word.{pick, payload_at, range_at, next, flag_of}
-use Rattle.recorder.specs.Mem.{Mem, mem_r, names_in, symbol_number, entry_of, known, as_word, records_in}
-use Rattle.sheet.specs.declared.form.Shape.TheVariants.{For, Next, While}
+use Rattle.recorder.specs.Mem.{Mem, mem_r, names_in, symbol_number, entry_of, known}
+use Rattle.sheet.specs.declared.form.Shape.TheVariants.{For, Next}
 use Rattle.sheet.specs.Skip.{skip_repeat, skip_list, skip_fields, skip_field, skip_times, skip_pair, skip_item}
 use Rattle.sheet.specs.Tree.{Opt, Expr, expr_at, items_at, opt_at, stmt_node}
 use Rattle.rules.specs.declared.types.«Type».{«Type» as Ty}
 use Rattle.rules.specs.declared.types.«Type».TheVariants.{Real}
 use Rattle.rules.specs.Expr.{compile_sym, opt_real_sym}
-use Rattle.rules.specs.Stmt.{compile_stmt, compile_while, compile_for, for_node, step_flag, next_one, next_each, compile_next}
+use Rattle.rules.specs.Stmt.{compile_stmt, compile_for, for_node, step_flag, next_each, compile_next}
 use Rattle.std.specs.Prelude.{Option}
 use Rattle.nodes.specs.Compiled.{sym, named, opt_of, CompiledTyped, PayloadAt}
 use Rattle.expressions.specs.Body.{Body}
-use Rattle.expressions.proofs.Lists.{items_step, items_length, repeat_step}
+use Rattle.expressions.proofs.Lists.{items_length}
 use Rattle.loops.specs.Parts.{Stepped, NextDone}
 
 -- FOR
@@ -46,27 +46,6 @@ pub sym_small : (t : List ℕ) (base : ℕ) (r : Range) (m m1 : Mem) (v : ℕ) (
 unfolding compile_sym
 sym_small t base r m m1 v ty e = let f : v ≡ (compile_sym (mem_r t) t base r m).number = ap (λ z. z.number) e in rw f (small _ _ _ _ _ _)
 
-next_more : (t : List ℕ) (base k : ℕ) (r : Range) (s : List ℕ) (n at : ℕ) (m : Mem) → 0 < n
-    → next_each (mem_r t) t base k r (items_at s (opt_at s (range_at s)) (next s) n at) m
-    ≡ next_each (mem_r t) t base k r (items_at s (opt_at s (range_at s)) (next s) (n - 1) (next s at)) (next_one (mem_r t) t base k r (opt_at s (range_at s) at) m)
-unfolding next_each
-next_more t base k r s n at m h = rw (items_step s (opt_at s (range_at s)) (next s) n at h)
-
-pub step_next : (s t : List ℕ) (base k : ℕ) (r : Range) (n at p : ℕ) (o : Option Range) (m m1 : Mem) → 0 < n → opt_of o ≡ opt_at s (range_at s) at → p ≡ next s at
-    → m1 ≡ next_one (mem_r t) t base k r (opt_of o) m
-    → next_each (mem_r t) t base k r (items_at s (opt_at s (range_at s)) (next s) (n - 1) p) m1 ≡ next_each (mem_r t) t base k r (items_at s (opt_at s (range_at s)) (next s) n at) m
-step_next s t base k r n at p o m m1 h ho hp e = rw (next_more t base k r s n at m h, ← hp, ← ho, ← e)
-
-pub step_one : (s : List ℕ) (n at p : ℕ) → 0 < n → p ≡ next s at → skip_repeat s (next s) (n - 1) p ≡ skip_repeat s (next s) n at
-step_one s n at p h hp = rw (repeat_step s (next s) n at h, ← hp)
-
-pub next_done : (s t : List ℕ) (base : ℕ) (r : Range) (n k at at₀ : ℕ) (m m₀ : Mem) → n ≤ 0 → skip_repeat s (next s) n at ≡ skip_repeat s (next s) k at₀
-    → next_each (mem_r t) t base k r (items_at s (opt_at s (range_at s)) (next s) n at) m ≡ next_each (mem_r t) t base k r (items_at s (opt_at s (range_at s)) (next s) k at₀) m₀
-    → NextDone s t base at₀ k r m₀ m at
-unfolding items_at next_each skip_repeat
-next_done s t base r zero k at at₀ m m₀ h p q = record { place = p; result = q }
-next_done s t base r (suc n) k at at₀ m m₀ h p q = absurd (omega arith)
-
 pub at_no_next : (s t : List ℕ) (base left k at : ℕ) (r : Range) (n p : ℕ) (m m1 : Mem) → PayloadAt s at n p → n ≡ 0 → m1 ≡ (mem_r t).emit m 24 r 0 0 0 → Body s t base left Next k r at m m1 p
 unfolding stmt_node compile_stmt compile_next items_at skip_fields skip_field skip_times skip_pair skip_item skip_list skip_repeat
 at_no_next s t base left k at r n p m m1 c z e =
@@ -87,9 +66,3 @@ at_next s t base left k at r n p q m m1 c h d = record {
   place = rw (← c.place, ← c.value) d.place;
   result = λ child. rw (← c.place, ← c.value, names_next t base r s n p m h) d.result;
 }
-
--- WHILE
-pub while_of : (s t : List ℕ) (base left k : ℕ) (r : Range) (p q a : ℕ) (m m1 m2 : Mem) → a ≡ as_word (records_in m.st) → CompiledTyped s t base left p Real m m1 q
-    → m2 ≡ (mem_r t).emit m1 25 r a 4294967295 0 → Body s t base left While k r p m m2 q
-unfolding stmt_node compile_stmt compile_while skip_fields skip_field skip_times skip_pair skip_item
-while_of s t base left k r p q a m m1 m2 ha x e = record { place = x.place; result = λ child. rw (e, x.result, ha) }

@@ -1,5 +1,6 @@
 // FOR and NEXT.
-ghost use Rattle.std.specs.Prelude.{◌≡◌, List, ℕ};
+ghost use Rattle.std.specs.Prelude.{◌≡◌, List, ℕ, Option, is_some, unwrap_or};
+ghost use Rattle.recorder.specs.declared.word.Range.{Range};
 ghost use Rattle.recorder.specs.Mem.{mem_r, note};
 ghost use Rattle.recorder.specs.CodeGen.{mem_of, SameLoans};
 ghost use Rattle.sheet.specs.declared.form.Shape.TheVariants.{For, Next};
@@ -42,13 +43,12 @@ fn compile_step(src: &Source, code: &mut CodeGen, at: usize, left: usize) -> Ste
 }
 
 // FOR's record, where its counter has a name: call 23.
-fn for_node(code: &mut CodeGen, o: Option<Range>, r: Range, n: u32, step: bool)
+fn for_node(code: &mut CodeGen, counter: Option<u32>, r: Range, step: bool)
     ensures same { SameLoans code.old code.new }
-    ensures value { (t : List ℕ) (base : ℕ) (e : Opt Expr) → flag_of step ≡ step_flag e → mem_of code.new ≡ for_node (mem_r t) t base (opt_of o) r n e (mem_of code.old) }
+    ensures value { (t : List ℕ) (base : ℕ) (o : Option Range) (e : Opt Expr) → is_some o ≡ is_some counter → flag_of step ≡ step_flag e → mem_of code.new ≡ for_node (mem_r t) t base (opt_of o) r (unwrap_or counter 0) e (mem_of code.old) }
 {
-    match o {
-        Some(_) => code.emit(r, Call::For(n, step)),
-        None => {}
+    if let Some(n) = counter {
+        code.emit(r, Call::For(n, step))
     }
 }
 
@@ -62,7 +62,7 @@ pub fn compile_for(src: &Source, code: &mut CodeGen, at: usize, left: usize, r: 
     let a = expressions::expr::compile_typed(src, code, p, left, Type::Real);
     let b = expressions::expr::compile_typed(src, code, a, left, Type::Real);
     let c = compile_step(src, code, b, left);
-    for_node(code, o, r, y, c.flag);
+    for_node(code, y, r, c.flag);
     c.at
 }
 
@@ -82,23 +82,25 @@ fn next_range(n: u32, r: Range, v: Range) -> Range
     if n == 1 { r } else { v }
 }
 
-// One of n names of NEXT: call 24.
+// One of n names of NEXT: "24 emit_next (symbol plus 1, or 0)". The 1 is added here, where the symbol is below 2^24: in Call
+// it might wrap, and a symbol would read as none.
 fn next_one(src: &Source, code: &mut CodeGen, n: u32, r: Range, o: Option<Range>)
     ensures same { SameLoans code.old code.new }
     ensures value { mem_of code.new ≡ next_one (mem_r src.now.text.now) src.now.text.now src.now.base n r (opt_of o) (mem_of code.old) }
 {
-    match o {
-        Some(v) => {
-            let y = nodes::node::compile_sym(src, code, v);
-            let ty = y.ty;
-            next_note(code, v, ty);
-            let w = next_range(n, r, v);
-            code.emit(w, Call::Next(y.number + 1))
-        }
-        None => {}
+    if let Some(v) = o {
+        let y = nodes::node::compile_sym(src, code, v);
+        let ty = y.ty;
+        next_note(code, v, ty);
+        let w = next_range(n, r, v);
+        code.emit(w, Call::Next(y.number + 1))
     }
 }
 
+// So many names of NEXT from a place on.
+// accept_fields' lists share a loop over a closure. Here the closure would write code, of which a contract says only that it was called.
+// So many on any sheet: behind its end each word reads as 0 and the place stays, where a slice's iterator would end.
+#[tactic(auto, unfolding(sheet::specs::Skip::skip_repeat, sheet::specs::Tree::items_at, rules::specs::Stmt::next_each), using(expressions::proofs::Lists::turns))]
 fn next_each(src: &Source, code: &mut CodeGen, at: usize, n: u32, r: Range) -> usize
     ensures same { SameLoans code.old code.new }
     ensures value { NextDone src.now.sheet.now src.now.text.now src.now.base at n r (mem_of code.old) (mem_of code.new) result }

@@ -1,5 +1,7 @@
-// What compile_expr of compiler.rs does for one node, without its children.
-ghost use Rattle.std.specs.Prelude.{◌≡◌, List, ℕ};
+// What compile_expr of compiler.rs does for one node, without its children. Functions and operators are numbers: they go into the
+// records as they stand in the sheet, also a number that names none.
+ghost use Rattle.std.specs.Prelude.{◌≡◌, List, ℕ, Option, is_some, unwrap_or};
+ghost use Rattle.recorder.specs.declared.word.Range.{Range};
 ghost use Rattle.recorder.specs.Mem.{mem_r};
 ghost use Rattle.recorder.specs.CodeGen.{mem_of, SameLoans};
 ghost use Rattle.sheet.specs.Tree.{opt_at};
@@ -10,11 +12,14 @@ ghost use Rattle.nodes.specs.Compiled.{sym, named, opt_of};
 
 use crate::source::Source;
 use recorder::call::{Call, Class};
-use recorder::codegen::{CodeGen, Name};
+use recorder::codegen::CodeGen;
 use recorder::unit::QUOTE;
 use recorder::word::Range;
-use rules::tables::{ADD, SPC, Sig, TAB};
+use rules::tables::{ADD, Sig};
 use rules::types::Type;
+
+// A literal's exponent, 0 to 255, or this for one too large.
+const TOO_LARGE: u32 = 256;
 
 // A symbol's number and its kind.
 #[derive(Clone, Copy)]
@@ -23,6 +28,7 @@ pub struct Sym {
     pub ty: Type,
 }
 
+// As jumps' target_at and opt_label_at: one function over what is read would take a closure, and ask in public that it may be called.
 pub fn opt_range_at(sheet: &[u32], at: usize) -> Option<Range>
     ensures { opt_of result ≡ opt_at sheet.now (range_at sheet.now) at }
 {
@@ -33,7 +39,9 @@ pub fn opt_range_at(sheet: &[u32], at: usize) -> Option<Range>
     }
 }
 
-// A note of class 4 where the kind is not the one wanted.
+// A note of class 4 where the kind is not the one wanted. check_real, NEXT's next_note and places' fits_note note unless a test holds,
+// too: one function over class and test would be their if alone. The range comes from the sheet, the kind from compiling: a struct of
+// both would be put together before each call.
 #[tactic(auto, unfolding(rules::specs::Expr::check_type))]
 pub fn check_type(code: &mut CodeGen, want: Type, r: Range, ty: Type)
     ensures same { SameLoans code.old code.new }
@@ -64,14 +72,7 @@ pub fn compile_sym(src: &Source, code: &mut CodeGen, r: Range) -> Sym
     let n = rules::name::read_name(src.text, src.base, r);
     let ty = n.ty;
     blank_note(code, n.lost, r);
-    let y = code.make_symbol(
-        src.text,
-        &Name {
-            start: n.start,
-            len: n.len,
-            sigil: n.sigil,
-        },
-    );
+    let y = code.make_symbol(src.text, &n.name);
     Sym { number: y, ty }
 }
 
@@ -99,15 +100,15 @@ pub fn real_sym(src: &Source, code: &mut CodeGen, r: Range) -> u32
     y.number
 }
 
-// The same where the name may be absent.
-pub fn opt_real_sym(src: &Source, code: &mut CodeGen, o: Option<Range>) -> u32
+// The same where the name may be absent. The rules tell a missing symbol by the name's Option, and keep the number apart: each clause on a
+// symbol says that the two agree.
+pub fn opt_real_sym(src: &Source, code: &mut CodeGen, o: Option<Range>) -> Option<u32>
     ensures same { SameLoans code.old code.new }
-    ensures value { named (mem_of code.new) result ≡ opt_real_sym (mem_r src.now.text.now) src.now.text.now src.now.base (opt_of o) (mem_of code.old) }
+    ensures told { is_some o ≡ is_some result }
+    ensures value { named (mem_of code.new) (unwrap_or result 0) ≡ opt_real_sym (mem_r src.now.text.now) src.now.text.now src.now.base (opt_of o) (mem_of code.old) }
 {
-    match o {
-        Some(r) => real_sym(src, code, r),
-        None => 0,
-    }
+    let r = o?;
+    Some(real_sym(src, code, r))
 }
 
 // A variable: call 5.
@@ -122,7 +123,8 @@ pub fn var_node(src: &Source, code: &mut CodeGen, r: Range) -> Type
     ty
 }
 
-// A variable to store to: call 7.
+// A variable to store to: call 7. It differs from var_node in the call, which is made of the symbol: one function would take what
+// makes the call, and name neither rule.
 pub fn var_place(src: &Source, code: &mut CodeGen, r: Range) -> Type
     ensures same { SameLoans code.old code.new }
     ensures value { out (mem_of code.new) result ≡ var_place (mem_r src.now.text.now) src.now.text.now src.now.base r (mem_of code.old) }
@@ -136,12 +138,9 @@ pub fn var_place(src: &Source, code: &mut CodeGen, r: Range) -> Type
 fn ends_in_quote(src: &Source, r: Range) -> bool
     ensures { result ≡ ends_in_quote src.now.text.now src.now.base r }
 {
-    let last = rules::name::text_place(src.base, r.end as u32).saturating_sub(1);
-    if (r.start as u32) + 1 < (r.end as u32) {
-        recorder::word::unit_at(src.text, last as usize) == QUOTE
-    } else {
-        false
-    }
+    let last = rules::name::text_place(src.base, u32::from(r.end)).saturating_sub(1);
+    u32::from(r.start) + 1 < u32::from(r.end)
+        && recorder::word::unit_at(src.text, last as usize) == QUOTE
 }
 
 // The units of a string, prompt or quoted datum, without its first and without a last quote.
@@ -160,10 +159,10 @@ pub fn quoted_length(src: &Source, r: Range) -> u32
 pub fn quoted_start(base: u32, r: Range) -> u32
     ensures { result ≡ quoted_start base r }
 {
-    rules::name::text_place(base, (r.start as u32) + 1)
+    rules::name::text_place(base, u32::from(r.start) + 1)
 }
 
-// A text: call 4, and a note where it is above 255.
+// A text: call 4, and a note where it is above 255. A datum has the note's two lines, too: a function for them would be no shorter.
 #[tactic(auto, unfolding(rules::specs::Expr::text_node))]
 pub fn text_node(src: &Source, code: &mut CodeGen, r: Range)
     ensures same { SameLoans code.old code.new }
@@ -177,25 +176,24 @@ pub fn text_node(src: &Source, code: &mut CodeGen, r: Range)
     }
 }
 
-// A number: call 3, or a note where it is too large.
+// A number: call 3, or a note where it is too large. The exponent is the sheet's number, so it is compared as it stands.
 #[tactic(auto, unfolding(rules::specs::Expr::number_node))]
 pub fn number_node(code: &mut CodeGen, r: Range, e: u32, m: u32)
     ensures same { SameLoans code.old code.new }
     ensures value { (t : List ℕ) (base : ℕ) → mem_of code.new ≡ number_node (mem_r t) t base r e m (mem_of code.old) }
 {
-    if e == 256 {
+    if e == TOO_LARGE {
         code.note(Class::NumberTooLarge, r)
     } else {
         code.emit(r, Call::Number(e, m))
     }
 }
 
-// TAB and SPC stand in PRINT alone.
 fn tab_note(code: &mut CodeGen, k: u32, fr: Range)
     ensures same { SameLoans code.old code.new }
     ensures value { (t : List ℕ) (base : ℕ) → mem_of code.new ≡ tab_note (mem_r t) t base k fr (mem_of code.old) }
 {
-    if matches!(k, TAB | SPC) {
+    if rules::tables::is_tab_or_spc(k) {
         code.note(Class::NotAllowed, fr)
     }
 }
@@ -213,11 +211,10 @@ fn arity_notes(code: &mut CodeGen, k: u32, n: u32, r: Range)
     }
     if g.max_args() < n {
         code.note(Class::TooManyArguments, r);
-        return;
     }
 }
 
-// What comes before a function's arguments.
+// What comes before a function's arguments. k, n and r are one call's: compile_expr alone has them, and would make a struct for two calls.
 #[tactic(auto, unfolding(rules::specs::Expr::func_notes))]
 pub fn func_notes(code: &mut CodeGen, k: u32, n: u32, fr: Range, r: Range)
     ensures same { SameLoans code.old code.new }
@@ -237,14 +234,13 @@ pub fn func_node(code: &mut CodeGen, k: u32, n: u32, r: Range) -> Type
     Sig::of_function(k).result_type()
 }
 
-// A user function's call behind its argument: call 12.
-pub fn user_call(code: &mut CodeGen, o: Option<Range>, r: Range, n: u32)
+// A user function's call behind its argument: call 12. The rule asks whether the name, o, is there, which the symbol tells.
+pub fn user_call(code: &mut CodeGen, f: Option<u32>, r: Range)
     ensures same { SameLoans code.old code.new }
-    ensures value { (t : List ℕ) (base : ℕ) → mem_of code.new ≡ user_call (mem_r t) t base (opt_of o) r n (mem_of code.old) }
+    ensures value { (t : List ℕ) (base : ℕ) (o : Option Range) → is_some o ≡ is_some f → mem_of code.new ≡ user_call (mem_r t) t base (opt_of o) r (unwrap_or f 0) (mem_of code.old) }
 {
-    match o {
-        Some(_) => code.emit(r, Call::UserFuncCall(n)),
-        None => {}
+    if let Some(n) = f {
+        code.emit(r, Call::UserFuncCall(n))
     }
 }
 
@@ -270,9 +266,7 @@ fn like_call(code: &mut CodeGen, k: u32, r: Range, x: Type)
 {
     match x {
         Type::String => code.emit(r, Call::StrBinaryExpr(k)),
-        Type::Integer => code.emit(r, Call::NumBinaryExpr(k)),
-        Type::Real => code.emit(r, Call::NumBinaryExpr(k)),
-        Type::Error => code.emit(r, Call::NumBinaryExpr(k)),
+        _ => code.emit(r, Call::NumBinaryExpr(k)),
     }
 }
 
@@ -353,7 +347,8 @@ pub fn index_node(src: &Source, code: &mut CodeGen, o: Option<Range>, r: Range, 
     }
 }
 
-// An array's element to store to: call 8.
+// An array's element to store to: call 8. index_node, this and DIM's dim_node differ in the call and in the range that it gets: one
+// function would take both as parameters.
 pub fn index_place(src: &Source, code: &mut CodeGen, o: Option<Range>, n: u32) -> Type
     ensures same { SameLoans code.old code.new }
     ensures value { out (mem_of code.new) result ≡ index_place (mem_r src.now.text.now) src.now.text.now src.now.base (opt_of o) n (mem_of code.old) }

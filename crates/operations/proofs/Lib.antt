@@ -1,3 +1,1 @@
 pub mod OpLaws
-pub mod DrawLaws
-pub mod LocateLaws

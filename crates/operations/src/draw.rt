@@ -14,6 +14,7 @@ use rules::tables::Wants;
 use sheet::form::{Shape, Sort};
 
 // Too few arguments, too many, or the call.
+#[tactic(auto, unfolding(rules::specs::Stmt::draw_node), using(expressions::proofs::ExprLaws::how_many_lem))]
 fn draw_node(src: &Source, code: &mut CodeGen, at: usize, n: u32, left: usize, k: u32, r: Range)
     ensures same { SameLoans code.old code.new }
     ensures value { (t : List ℕ) (base : ℕ) → mem_of code.new ≡ draw_node (mem_r t) t base k r (args_at src.now.sheet.now left n at) (mem_of code.old) }
@@ -30,6 +31,7 @@ fn draw_node(src: &Source, code: &mut CodeGen, at: usize, n: u32, left: usize, k
     code.emit(r, Call::Op(k, n))
 }
 
+#[tactic(auto, unfolding(sheet::specs::Tree::stmt_node, rules::specs::Stmt::compile_stmt, sheet::specs::Skip::skip_fields, sheet::specs::Skip::skip_field, sheet::specs::Skip::skip_times, sheet::specs::Skip::skip_pair, sheet::specs::Skip::skip_item, sheet::specs::Skip::skip_list))]
 pub fn compile_draw_stmt(
     src: &Source,
     code: &mut CodeGen,

@@ -1,16 +1,22 @@
-// Statements of operands alone, with one record behind them; and SYSTEM, which makes a note.
-ghost use Rattle.std.specs.Prelude.{List, ℕ};
+// Statements of operands alone, with one record behind them; and SYSTEM, which makes a note. A statement's number k goes into its record
+// as it stands in the sheet; what kind of statement it is, its Shape says.
+#![tactic(auto, unfolding(sheet::specs::Tree::stmt_node, rules::specs::Stmt::compile_stmt, sheet::specs::Skip::skip_fields, sheet::specs::Skip::skip_field, sheet::specs::Skip::skip_times, sheet::specs::Skip::skip_pair, sheet::specs::Skip::skip_item), using(expressions::proofs::Lists::place_same))]
+
+ghost use Rattle.std.specs.Prelude.{List, ℕ, ◌≤◌};
 ghost use Rattle.recorder.specs.CodeGen.{mem_of, SameLoans};
 ghost use Rattle.expressions.specs.Body.{Body};
+ghost use Rattle.operations.specs.Parts.{shape_for};
 
 use nodes::source::Source;
 use recorder::call::{Call, Class};
 use recorder::codegen::CodeGen;
 use recorder::word::Range;
+use rules::tables::Wants;
 use rules::types::Type;
 use sheet::form::Shape;
 
-// Statements that do nothing, with the range of what they hold.
+// Statements that do nothing, with the range of what they hold. This function, the next one and compile_run are two lines each, for its
+// shape's rule: one over the call would have to say which call goes with which shape.
 pub fn compile_rem(src: &Source, code: &mut CodeGen, at: usize, r: Range) -> usize
     ensures same { SameLoans code.old code.new }
     ensures value { (t : List ℕ) (base left k : ℕ) → Body src.now.sheet.now t base left Shape.Rem k r at (mem_of code.old) (mem_of code.new) result }
@@ -24,15 +30,6 @@ pub fn compile_no_op(code: &mut CodeGen, at: usize, r: Range) -> usize
     ensures value { (s t : List ℕ) (base left k : ℕ) → Body s t base left Shape.NoOp k r at (mem_of code.old) (mem_of code.new) result }
 {
     code.emit(r, Call::NoOp);
-    at
-}
-
-// Statements of no operand.
-pub fn compile_op(code: &mut CodeGen, at: usize, k: u32, r: Range) -> usize
-    ensures same { SameLoans code.old code.new }
-    ensures value { (s t : List ℕ) (base left : ℕ) → Body s t base left Shape.Op0 k r at (mem_of code.old) (mem_of code.new) result }
-{
-    code.emit(r, Call::Op(k, 0));
     at
 }
 
@@ -53,62 +50,22 @@ pub fn compile_system(code: &mut CodeGen, at: usize, r: Range) -> usize
     at
 }
 
-// Statements of one operand, of two, and of three.
-pub fn compile_unary_stmt(
+// Statements of so many operands, three at most.
+pub fn compile_operands(
     src: &Source,
     code: &mut CodeGen,
     at: usize,
     left: usize,
+    n: u32,
     k: u32,
     r: Range,
 ) -> usize
     ensures same { SameLoans code.old code.new }
-    ensures value { Body src.now.sheet.now src.now.text.now src.now.base left Shape.Op1 k r at (mem_of code.old) (mem_of code.new) result }
+    ensures value { n ≤ 3 → Body src.now.sheet.now src.now.text.now src.now.base left (shape_for n) k r at (mem_of code.old) (mem_of code.new) result }
 {
-    let v = rules::tables::operand_type(k, 0);
-    let x = expressions::expr::compile_typed(src, code, at, left, v);
-    code.emit(r, Call::Op(k, 1));
+    let x = expressions::expr::compile_args(src, code, at, n, Wants::Operands(k), left);
+    code.emit(r, Call::Op(k, n));
     x
-}
-
-pub fn compile_binary_stmt(
-    src: &Source,
-    code: &mut CodeGen,
-    at: usize,
-    left: usize,
-    k: u32,
-    r: Range,
-) -> usize
-    ensures same { SameLoans code.old code.new }
-    ensures value { Body src.now.sheet.now src.now.text.now src.now.base left Shape.Op2 k r at (mem_of code.old) (mem_of code.new) result }
-{
-    let v = rules::tables::operand_type(k, 0);
-    let w = rules::tables::operand_type(k, 1);
-    let x = expressions::expr::compile_typed(src, code, at, left, v);
-    let y = expressions::expr::compile_typed(src, code, x, left, w);
-    code.emit(r, Call::Op(k, 2));
-    y
-}
-
-pub fn compile_fread_fwrite(
-    src: &Source,
-    code: &mut CodeGen,
-    at: usize,
-    left: usize,
-    k: u32,
-    r: Range,
-) -> usize
-    ensures same { SameLoans code.old code.new }
-    ensures value { Body src.now.sheet.now src.now.text.now src.now.base left Shape.Op3 k r at (mem_of code.old) (mem_of code.new) result }
-{
-    let v = rules::tables::operand_type(k, 0);
-    let w = rules::tables::operand_type(k, 1);
-    let u = rules::tables::operand_type(k, 2);
-    let x = expressions::expr::compile_typed(src, code, at, left, v);
-    let y = expressions::expr::compile_typed(src, code, x, left, w);
-    let z = expressions::expr::compile_typed(src, code, y, left, u);
-    code.emit(r, Call::Op(k, 3));
-    z
 }
 
 // LSET and RSET.

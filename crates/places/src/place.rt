@@ -14,6 +14,9 @@ use recorder::word::Range;
 use rules::types::Type;
 use sheet::form::Shape;
 
+// SWAP's number in StmtKind.
+const SWAP: u32 = 58;
+
 // A note of class 4 where two kinds do not fit.
 fn fits_note(code: &mut CodeGen, r: Range, fits: bool)
     ensures same { SameLoans code.old code.new }
@@ -70,11 +73,13 @@ pub fn compile_swap(src: &Source, code: &mut CodeGen, at: usize, left: usize, r:
     let yt = y.ty;
     let fits = xt.exact_matches(yt);
     fits_note(code, r, fits);
-    code.emit(r, Call::Op(58, 2));
+    code.emit(r, Call::Op(SWAP, 2));
     y.at
 }
 
-// So many places, each with the record that reads it.
+// So many places, each with the record that reads it. accept_fields' lists share a loop over a closure. Here the closure would write code,
+// of which a contract says only that it was called.
+#[tactic(auto, unfolding(sheet::specs::Skip::skip_repeat, sheet::specs::Tree::exprs_at, rules::specs::Stmt::compile_read), using(expressions::proofs::Lists::turns, expressions::proofs::Lists::place_same, expressions::proofs::ExprLaws::range_of_lem))]
 fn read_each(src: &Source, code: &mut CodeGen, at: usize, n: u32, left: usize) -> usize
     ensures same { SameLoans code.old code.new }
     ensures value { ReadEach src.now.sheet.now src.now.text.now src.now.base left at n (mem_of code.old) (mem_of code.new) result }

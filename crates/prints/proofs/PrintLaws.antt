@@ -1,6 +1,6 @@
 -- PRINT: one law for each way out.
 use mathlib.Core.Path.{◌≡◌, refl, sym as inv, ap, subst, ◌∙◌}
-use mathlib.Core.List.{List, ◌∷◌}
+use mathlib.Core.List.{List}
 use mathlib.Core.Bool.{Bool, true, false}
 use Prim.Native.Nat.{ℕ, zero, suc, ◌-◌, ◌≤◌, ◌<◌}
 use lib.Dec.{T, eqb}
@@ -10,6 +10,8 @@ use native.Mathlib.Omega.{arith}
 use Rattle.recorder.specs.declared.word.Range.{Range}
 use Rattle.recorder.specs.Word.{pick, both, either, payload_at, range_at, next}
 use Rattle.recorder.specs.Mem.{Mem, mem_r}
+use Rattle.recorder.specs.CodeGen.{emit}
+use Rattle.recorder.specs.declared.call.Call.TheVariants.{PrintNum, PrintStr}
 use Rattle.sheet.specs.declared.form.Sort.TheVariants.{Expr as exprSort}
 use Rattle.sheet.specs.declared.form.Shape.TheVariants.{Print}
 use Rattle.sheet.specs.declared.form.ElementKind.{ElementKind}
@@ -19,13 +21,14 @@ use Rattle.sheet.proofs.Cases.{value_first, value_number, comma_number, semicolo
 use Rattle.sheet.specs.Skip.{skip_node, skip_repeat, skip_list, skip_fields, skip_field, skip_times, skip_pair, skip_item}
 use Rattle.sheet.specs.Tree.{Expr, sys_func_call, Stmt, PrintElement, value, expr_range, expr_at, expr_node, items_at, element_at, element_of, stmt_node, args_at}
 use Rattle.rules.specs.declared.types.«Type».{«Type» as Ty}
+use Rattle.rules.specs.declared.types.«Type».TheVariants.{Real}
 use Rattle.rules.specs.declared.tables.Wants.TheVariants.{Func}
+use Rattle.rules.specs.Types.{matches_type}
 use Rattle.rules.specs.Stmt.{compile_stmt, is_tab_spc, is_value, surplus_notes, tab_call, print_value, blank_between, behind_value, print_one, print_each, empty_line, compile_print}
 use Rattle.nodes.specs.Compiled.{Compiled, CompiledArgs, PayloadAt}
 use Rattle.expressions.specs.Body.{Body}
-use Rattle.expressions.proofs.Lists.{items_step, repeat_step}
 use Rattle.expressions.proofs.ExprLaws.{range_of_lem}
-use Rattle.prints.specs.Parts.{over_element, print_call, tab_emit, behind_call, blank_line, args_here, Tabbed, Valued, OnePrinted, Printed}
+use Rattle.prints.specs.Parts.{over_element, tab_emit, behind_call, blank_line, args_here, Tabbed, Valued, Printed}
 
 never : {X : Type 0} → false ≡ true → X
 never e = absurd (subst T (inv e) tt)
@@ -101,7 +104,11 @@ second s at k e h = inv e ∙ comma_number k h
 pub third : (s : List ℕ) (at k : ℕ) → k ≡ payload_at s at → Semicolon ≡ element_kind k → payload_at s at ≡ suc (suc (k - 2))
 third s at k e h = inv e ∙ semicolon_number k h
 
--- calls
+-- one of two calls
+pub one_call : (t : List ℕ) (k : Bool) (x y a b : ℕ) (r : Range) (m : Mem) → pick k ((mem_r t).emit m x r a b 0) ((mem_r t).emit m y r a b 0) ≡ (mem_r t).emit m (pick k x y) r a b 0
+one_call t true x y a b r m = refl
+one_call t false x y a b r m = refl
+
 -- what follows a value
 pub behind_blank : (t : List ℕ) (base : ℕ) (b : Bool) (r er : Range) (n : ℕ) (v w : Bool) (m m1 : Mem) → 2 ≤ n → w ≡ both v (pick b false true) → w ≡ true → m1 ≡ blank_between (mem_r t) t base er m
     → m1 ≡ behind_call (mem_r t) b r er n v m
@@ -159,39 +166,16 @@ value_tab s t base left n r er at q q1 p b m m1 m2 hr hb h hq h1 x f =
       result = λ child. tab_value t base r er (expr_at s left at) (items_at s (element_at s left child) (over_element s left) (n - 1) p) m m1 m2 i (hr ∙ inv (range_of_lem s left at)) (call_is s t base left at m m1 p d e x') (f ∙ behind_is s t base left child true r er (over_element s left) n p m1);
     }
 
-printed_is : (s t : List ℕ) (base left : ℕ) (er : Range) (at p : ℕ) (m m1 m2 : Mem) (ty : Ty) → er ≡ range_at s (next s at) → Compiled s t base left at m m1 p ty → m2 ≡ print_call (mem_r t) er ty m1
-    → m2 ≡ print_value (mem_r t) t base (expr_at s left at) m
-printed_is s t base left er at p m m1 m2 ty hr x e = rw (← x.result, range_of_lem s left at, e, hr)
+printed_is : (s t : List ℕ) (base left : ℕ) (er : Range) (at p : ℕ) (m m1 m2 : Mem) (ty : Ty) → er ≡ range_at s (next s at) → Compiled s t base left at m m1 p ty
+    → m2 ≡ pick (matches_type ty Real) (emit m1 er PrintNum) (emit m1 er PrintStr) → m2 ≡ print_value (mem_r t) t base (expr_at s left at) m
+printed_is s t base left er at p m m1 m2 ty hr x e = rw (← x.result, range_of_lem s left at, e, hr) (one_call t (matches_type ty Real) 38 39 0 0 (range_at s (next s at)) m1)
 
 pub value_plain : (s t : List ℕ) (base left n : ℕ) (r er : Range) (at p : ℕ) (b : Bool) (m m1 m2 m3 : Mem) (ty : Ty) → er ≡ range_at s (next s at) → b ≡ is_tab_spc (expr_at s left at) → b ≡ false
-    → Compiled s t base left at m m1 p ty → m2 ≡ print_call (mem_r t) er ty m1 → m3 ≡ behind_call (mem_r t) false r er n (eqb (payload_at s p) 0) m2 → Valued s t base left n r at m m3 p
+    → Compiled s t base left at m m1 p ty → m2 ≡ pick (matches_type ty Real) (emit m1 er PrintNum) (emit m1 er PrintStr) → m3 ≡ behind_call (mem_r t) false r er n (eqb (payload_at s p) 0) m2 → Valued s t base left n r at m m3 p
 value_plain s t base left n r er at p b m m1 m2 m3 ty hr hb h x e f = record {
   place = x.place;
   result = λ child. plain_value t base r er (expr_at s left at) (items_at s (element_at s left child) (over_element s left) (n - 1) p) m m2 m3 (inv hb ∙ h) (hr ∙ inv (range_of_lem s left at)) (printed_is s t base left er at p m m1 m2 ty hr x e) (f ∙ behind_is s t base left child false r er (over_element s left) n p m2);
 }
-
-pub print_place : (s t : List ℕ) (base left n : ℕ) (r : Range) (at p : ℕ) (m m1 : Mem) → 0 < n → OnePrinted s t base left n r at m m1 p
-    → skip_repeat s (over_element s left) (n - 1) p ≡ skip_repeat s (over_element s left) n at
-print_place s t base left n r at p m m1 h x = rw (repeat_step s (over_element s left) n at h, x.place)
-
-print_more : (t : List ℕ) (base : ℕ) (r : Range) (x : PrintElement) (xs : List PrintElement) (m : Mem) → print_each (mem_r t) t base r (x ∷ xs) m
-    ≡ print_each (mem_r t) t base r xs (print_one (mem_r t) t base r x xs m)
-unfolding print_each
-print_more t base r x xs m = refl
-
-pub print_step : (s t : List ℕ) (base left n : ℕ) (r : Range) (at p : ℕ) (m m1 : Mem) → 0 < n → OnePrinted s t base left n r at m m1 p → (child : ℕ → Stmt)
-    → print_each (mem_r t) t base r (items_at s (element_at s left child) (over_element s left) (n - 1) p) m1
-    ≡ print_each (mem_r t) t base r (items_at s (element_at s left child) (over_element s left) n at) m
-print_step s t base left n r at p m m1 h x child =
-    rw (items_step s (element_at s left child) (over_element s left) n at h, print_more, ← x.place, x.result child)
-
-pub print_end : (s t : List ℕ) (base left n k : ℕ) (r : Range) (at at₀ : ℕ) (m m₀ : Mem) → n ≤ 0 → skip_repeat s (over_element s left) n at ≡ skip_repeat s (over_element s left) k at₀
-    → ((child : ℕ → Stmt) → print_each (mem_r t) t base r (items_at s (element_at s left child) (over_element s left) n at) m
-    ≡ print_each (mem_r t) t base r (items_at s (element_at s left child) (over_element s left) k at₀) m₀)
-    → Printed s t base left k r at₀ m₀ m at
-unfolding items_at print_each skip_repeat
-print_end s t base left zero k r at at₀ m m₀ h p q = record { place = p; result = q }
-print_end s t base left (suc n) k r at at₀ m m₀ h p q = absurd (omega arith)
 
 empty_is : (s t : List ℕ) (base : ℕ) (r : Range) (f : ℕ → PrintElement) (g : ℕ → ℕ) (n at : ℕ) (m : Mem) → blank_line (mem_r t) n r m ≡ empty_line (mem_r t) t base r (items_at s f g n at) m
 unfolding items_at

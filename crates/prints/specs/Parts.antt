@@ -6,23 +6,10 @@ use Rattle.recorder.specs.Recorder.{Recorder}
 use Rattle.recorder.specs.Mem.{Mem, mem_r}
 use Rattle.sheet.specs.declared.form.Sort.TheVariants.{Expr as exprSort}
 use Rattle.sheet.specs.Skip.{skip_node, skip_repeat, skip_element}
-use Rattle.sheet.specs.Tree.{Expr, Exprs, WriteElement, value, Stmt, expr_at, items_at, element_at, write_element_at, args_at}
-use Rattle.rules.specs.declared.types.«Type».{«Type» as Ty}
-use Rattle.rules.specs.declared.types.«Type».TheVariants.{Real}
-use Rattle.rules.specs.Types.{matches_type}
+use Rattle.sheet.specs.Tree.{Exprs, value, Stmt, expr_at, items_at, element_at, write_element_at, args_at}
 use Rattle.rules.specs.Tables.{wanted, signature_of}
 use Rattle.rules.specs.Expr.{compile_args}
 use Rattle.rules.specs.Stmt.{surplus_notes, print_one, print_each, write_each}
-
--- a value of WRITE with its flag
-abbrev pub element : Expr → ℕ → WriteElement
-element e c = record { datum = e; comma = c }
-
-abbrev pub kept_call : {S : Type 0} → Recorder S → Range → ℕ → ℕ → Ty → S → S
-kept_call R r to_file end ty u = R.emit u (pick (matches_type ty Real) 44 45) r to_file end 0
-
-abbrev pub dropped_call : {S : Type 0} → Recorder S → Range → Ty → S → S
-dropped_call R r ty u = R.emit u (pick (matches_type ty Real) 46 47) r 0 0 0
 
 -- n values of WRITE from a place on
 pub record WritesDone (s t : List ℕ) (base left to_file n at : ℕ) (m m' : Mem) (p : ℕ) : Type 0 where
@@ -32,9 +19,6 @@ pub record WritesDone (s t : List ℕ) (base left to_file n at : ℕ) (m m' : Me
 -- an element of PRINT is skipped by its own word
 abbrev pub over_element : List ℕ → ℕ → ℕ → ℕ
 over_element s left q = skip_element s (skip_node s left) (payload_at s q) (next s q)
-
-abbrev pub print_call : {S : Type 0} → Recorder S → Range → Ty → S → S
-print_call R r ty u = R.emit u (pick (matches_type ty Real) 38 39) r 0 0 0
 
 abbrev pub tab_emit : {S : Type 0} → Recorder S → Range → ℕ → S → S
 tab_emit R r k u = R.emit u (pick (eqb k 28) 40 41) r 0 0 0

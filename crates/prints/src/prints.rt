@@ -1,27 +1,22 @@
 // compile_print of compiler.rs.
 ghost use Rattle.std.specs.Prelude.{◌≡◌, true, false, List, ℕ, eqb};
-ghost use Rattle.recorder.specs.Word.{pick, both, either, payload_at};
+ghost use Rattle.recorder.specs.Word.{pick, both, payload_at};
 ghost use Rattle.recorder.specs.Mem.{mem_r};
-ghost use Rattle.recorder.specs.CodeGen.{mem_of, SameLoans};
+ghost use Rattle.recorder.specs.CodeGen.{mem_of, SameLoans, emit};
 ghost use Rattle.sheet.specs.Tree.{expr_at};
+ghost use Rattle.rules.specs.declared.types.«Type».TheVariants.{Real};
+ghost use Rattle.rules.specs.Types.{matches_type};
 ghost use Rattle.rules.specs.Stmt.{is_tab_spc, blank_between};
 ghost use Rattle.expressions.specs.Body.{Body};
-ghost use Rattle.prints.specs.Parts.{Tabbed, Valued, OnePrinted, Printed, print_call, tab_emit, behind_call, blank_line};
+ghost use Rattle.prints.specs.Parts.{Tabbed, Valued, OnePrinted, Printed, tab_emit, behind_call, blank_line};
 
 use nodes::source::Source;
 use recorder::call::Call;
 use recorder::codegen::CodeGen;
 use recorder::word::Range;
-use rules::tables::Wants;
+use rules::tables::{SPC, Wants};
 use rules::types::Type;
 use sheet::form::{ElementKind, ExprKind, Shape};
-
-// The functions 27 TAB and 28 SPC.
-fn tab_or_spc(k: u32) -> bool
-    ensures { result ≡ either (eqb k 27) (eqb k 28) }
-{
-    k == 27 || k == 28
-}
 
 // Whether the expression at a place is TAB or SPC itself.
 #[tactic(auto, using(crate::proofs::PrintLaws::tab_zero))]
@@ -35,21 +30,22 @@ fn is_tab_spc(sheet: &[u32], at: usize, left: usize) -> bool
         ExprKind::SysFuncCall => {
             let p = recorder::word::behind(sheet, recorder::word::behind(sheet, at));
             let k = recorder::word::payload_at(sheet, recorder::word::behind(sheet, p));
-            tab_or_spc(k)
+            rules::tables::is_tab_or_spc(k)
         }
         _ => false,
     }
 }
 
-// Call 38 or 39.
-fn print_call(code: &mut CodeGen, r: Range, ty: Type)
+// One call for a number, the other for a text.
+#[inline(always)]
+pub(crate) fn emit_by(code: &mut CodeGen, r: Range, ty: Type, number: Call, text: Call)
     ensures same { SameLoans code.old code.new }
-    ensures value { (t : List ℕ) → mem_of code.new ≡ print_call (mem_r t) r ty (mem_of code.old) }
+    ensures value { mem_of code.new ≡ pick (matches_type ty Real) (emit (mem_of code.old) r number) (emit (mem_of code.old) r text) }
 {
     if ty.matches(Type::Real) {
-        code.emit(r, Call::PrintNum)
+        code.emit(r, number)
     } else {
-        code.emit(r, Call::PrintStr)
+        code.emit(r, text)
     }
 }
 
@@ -58,7 +54,7 @@ fn tab_emit(code: &mut CodeGen, r: Range, k: u32)
     ensures same { SameLoans code.old code.new }
     ensures value { (t : List ℕ) → mem_of code.new ≡ tab_emit (mem_r t) r k (mem_of code.old) }
 {
-    if k == 28 {
+    if k == SPC {
         code.emit(r, Call::PrintSpc)
     } else {
         code.emit(r, Call::PrintTab)
@@ -86,7 +82,8 @@ fn wants_blank(sheet: &[u32], at: usize, tabbed: bool) -> bool
         )
 }
 
-// What follows an expression: `more` counts its element and those behind it, the next of which is at the place.
+// What follows an expression: `more` counts its element and those behind it, the next of which is at the place. `more` changes with each
+// element, r is the statement's: one struct would be made anew for each.
 fn behind_value(
     src: &Source,
     code: &mut CodeGen,
@@ -121,6 +118,7 @@ fn tab_call(src: &Source, code: &mut CodeGen, at: usize, left: usize, r: Range) 
 }
 
 // An expression as an element: `more` counts it and the elements behind it.
+#[tactic(auto, using(crate::proofs::PrintLaws::tab_deep))]
 fn print_value(
     src: &Source,
     code: &mut CodeGen,
@@ -140,7 +138,7 @@ fn print_value(
         x
     } else {
         let x = expressions::expr::compile_expr(src, code, at, left);
-        print_call(code, er, x.ty);
+        emit_by(code, er, x.ty, Call::PrintNum, Call::PrintStr);
         behind_value(src, code, x.at, more, false, er, r);
         x.at
     }
@@ -166,7 +164,9 @@ fn print_one(src: &Source, code: &mut CodeGen, at: usize, left: usize, more: u32
     }
 }
 
-// So many elements from a place on.
+// So many elements from a place on. accept_fields' lists share a loop over a closure. Here the closure would write code, of which a
+// contract says only that it was called.
+#[tactic(auto, unfolding(sheet::specs::Skip::skip_repeat, sheet::specs::Tree::items_at, rules::specs::Stmt::print_each), using(expressions::proofs::Lists::turns))]
 fn print_each(src: &Source, code: &mut CodeGen, at: usize, left: usize, n: u32, r: Range) -> usize
     ensures same { SameLoans code.old code.new }
     ensures value { Printed src.now.sheet.now src.now.text.now src.now.base left n r at (mem_of code.old) (mem_of code.new) result }
@@ -188,16 +188,9 @@ fn empty_line(code: &mut CodeGen, n: u32, r: Range)
     }
 }
 
-pub fn compile_print(
-    src: &Source,
-    code: &mut CodeGen,
-    at: usize,
-    left: usize,
-    k: u32,
-    r: Range,
-) -> usize
+pub fn compile_print(src: &Source, code: &mut CodeGen, at: usize, left: usize, r: Range) -> usize
     ensures same { SameLoans code.old code.new }
-    ensures value { Body src.now.sheet.now src.now.text.now src.now.base left Shape.Print k r at (mem_of code.old) (mem_of code.new) result }
+    ensures value { (k : ℕ) → Body src.now.sheet.now src.now.text.now src.now.base left Shape.Print k r at (mem_of code.old) (mem_of code.new) result }
 {
     let c = expressions::expr::read_payload(src.sheet, at);
     let x = print_each(src, code, c.at, left, c.value, r);

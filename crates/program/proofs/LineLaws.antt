@@ -1,4 +1,5 @@
 -- The loop over the lines.
+use Rattle.std.specs.Prelude.{None}
 use mathlib.Core.Path.{◌≡◌, refl, sym as inv, ap, ◌∙◌}
 use mathlib.Core.List.{List, [], ◌∷◌}
 use Prim.Native.Nat.{ℕ, zero, suc, ◌+◌, ◌*◌, ◌-◌, ◌≤◌, ◌<◌}
@@ -22,7 +23,7 @@ pub record Going (s t : List ℕ) (count line : ℕ) (c : Lines) (m₀ m : Mem) 
   pub lines : compile_lines (mem_r t) t (items_at s (line_at s) (behind_line s) (count - line) c.at) (lines_of c line m marks) ≡ compile_lines (mem_r t) t (program_at s) (first_line (mem_r t) t m₀)
 
 pub going_start : (s t : List ℕ) (count at : ℕ) (m : Mem) (w : List ℕ) → count ≡ payload_at s 0 → at ≡ next s 0
-    → Going s t count 0 (record { at = at; marks = 0; last = 0; base = 0 }) m m w w
+    → Going s t count 0 (record { at = at; marks = 0; last = None; base = 0 }) m m w w
 unfolding program_at
 going_start s t count at m w hc ha = record {
   marks = [];

@@ -1,5 +1,6 @@
 -- The contracts' shapes for a line and for all lines: the work that is left, and what is compiled.
-use Rattle.std.specs.Prelude.{◌≡◌, List, ℕ, ◌+◌, ◌*◌, ◌<◌, length, replicate}
+use Rattle.std.specs.Prelude.{◌≡◌, List, ℕ, ◌+◌, ◌*◌, ◌<◌, length, replicate, Option, None, Some}
+use Rattle.recorder.specs.declared.label.Label.{Label}
 use Rattle.recorder.specs.Word.{payload_at}
 use Rattle.recorder.specs.Marks.{Mark}
 use Rattle.labels.specs.MarkWords.{mark_list, mark_count}
@@ -19,9 +20,14 @@ abbrev pub line_count : Opt Target → List ℕ → ℕ → ℕ
 line_count absent w n = n
 line_count (given l) w n = mark_count w n
 
+-- the last label plus 1; 0 before the first
+abbrev pub label_word : Option Label → ℕ
+label_word None = 0
+label_word (Some l) = l.0 + 1
+
 -- the rules' account of what the code's says, with a memory and the labelled lines so far
 abbrev pub lines_of : Lines → ℕ → Mem → List Mark → Program.Lines Mem
-lines_of c line m ms = record { state = m; marks = ms; last = c.last; base = c.base; line = line }
+lines_of c line m ms = record { state = m; marks = ms; last = label_word c.last; base = c.base; line = line }
 
 -- the line at c's place
 pub record CompiledLine (s t : List ℕ) (line : ℕ) (c d : Lines) (m m' : Mem) (w w' : List ℕ) : Type 0 where

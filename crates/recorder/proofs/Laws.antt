@@ -1,18 +1,19 @@
 -- One law for each way out of a function whose contract is not plain: premises are what its calls ensure, the conclusion is its contract.
+use Rattle.std.specs.Prelude.{Option, None, Some, unwrap_or}
 use mathlib.Core.Path.{◌≡◌, refl, ◌∙◌}
 use mathlib.Core.List.{List}
 use mathlib.Core.Bool.{Bool, true, false}
 use Prim.Native.Nat.{ℕ, zero, suc, ◌+◌, ◌*◌, ◌-◌, ◌≤◌, ◌<◌, ◌/◌, ◌%◌}
-use lib.Dec.{ltb, eqb}
+use lib.Dec.{ltb}
 use lib.ListN.{length, get_or, set, length-set}
 use borrow.Author.Tests.{lt-ltb, le-ltb, eq-eqb, ne_eqb}
 use native.Mathlib.Numerals.{sub-one}
 use native.Mathlib.Omega.{arith}
 use Rattle.recorder.specs.declared.codegen.Descent.{Descent}
 use Rattle.recorder.specs.declared.codegen.State.{State}
-use Rattle.recorder.specs.Word.{pick, both, next}
+use Rattle.recorder.specs.Word.{pick, next, plus_one}
 use Rattle.recorder.specs.Name.{upper, same_units}
-use Rattle.recorder.specs.Mem.{known, sigil_code, with_link, tag_of, name_tag, tagged_at, named_at, lookup, hash_step, hash_of, child_of, descent_from, descent_to, linked_at, linked, note_st, root_in}
+use Rattle.recorder.specs.Mem.{known, sigil_code, with_link, tag_of, name_tag, tagged_at, named_at, lookup, hash_step, hash_of, child_of, descent_from, descent_to, linked_at, note_st}
 
 -- the units' loop: one turn, a difference, the end
 pub units_step : (t : List ℕ) (p q n p' q' x y u v : ℕ) (z : Bool) → 0 < n → same_units t p q n ≡ z → x ≡ get_or t p 0 → y ≡ get_or t q 0 → u ≡ upper x → v ≡ upper y
@@ -108,15 +109,15 @@ unfolding descent_from
 descent_end t b end x n g at bits zero w h e = e
 descent_end t b end x n g at bits (suc left) w h e = absurd (omega arith)
 
-pub descent_all : (t b : List ℕ) (st : State) (end x n g at bits : ℕ) (w : Descent) → end ≡ known b st → at ≡ root_in st - 1 → bits ≡ hash_of t x (sigil_code g) n
+-- the first name's place, by the number that is one more
+root_place : (o : Option ℕ) → unwrap_or o 0 ≡ plus_one o - 1
+root_place None = refl
+root_place (Some k) = rw sub-one refl
+
+pub descent_all : (t b : List ℕ) (st : State) (end x n g at bits : ℕ) (w : Descent) → end ≡ known b st → at ≡ unwrap_or st.root 0 → bits ≡ hash_of t x (sigil_code g) n
     → w ≡ descent_from t b end x n g (descent at bits) end → w ≡ descent_to t b st x n g
 unfolding descent_to
-descent_all t b st end x n g at bits w i j l e = e ∙ rw (l, j, i)
-
--- a tree's first name
-pub root_new : (root entries room : ℕ) (f : Bool) → root ≡ 0 → f ≡ both (ltb entries room) (ltb entries 32768) → f ≡ true
-    → entries + 1 ≡ pick (both (eqb root 0) (both (ltb entries room) (ltb entries 32768))) (entries + 1) root
-root_new root entries room f e i j = rw (eq-eqb root 0 e, ← i, j)
+descent_all t b st end x n g at bits w i j l e = e ∙ rw (l, j ∙ root_place st.root, i)
 
 -- a new name is linked
 pick_length : (f : Bool) (a b : List ℕ) → length a ≡ length b → length (pick f a b) ≡ length b

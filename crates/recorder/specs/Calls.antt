@@ -1,18 +1,25 @@
 -- The numbers of the code's calls and classes.
-use Rattle.std.specs.Prelude.{ℕ}
+use Rattle.std.specs.Prelude.{ℕ, ◌+◌, Option, None, Some}
+use Rattle.recorder.specs.declared.label.Label.{Label}
+use Rattle.recorder.specs.declared.word.Range.{Range}
 use Rattle.recorder.specs.declared.call.Call.{Call}
 use Rattle.recorder.specs.declared.call.Call.TheVariants.{NoOp, Op, Number, String, Var, Index, VarLvalue, IndexLvalue, FnLvalue, Inkey, SysFuncCall, UserFuncCall, UnaryExpr, NumBinaryExpr, StrBinaryExpr, AssignInt, AssignReal, AssignStr, Jz, Goto, Gosub, On, For, Next, While, BeginDefFn, EndDefFn, Dim, Field, Read, Restore, KeyboardInput, FileInput, Open, LoadBytes, SetRow, SetColumn, PrintNum, PrintStr, PrintSpc, PrintTab, Newline, Flush, WriteNum, WriteStr, PopNum, PopStr}
 use Rattle.recorder.specs.declared.call.Class.{Class}
 use Rattle.recorder.specs.declared.call.Class.TheVariants.{LabelsNotRising, TargetMissing, RestoreTargetMissing, KindsDiffer, NameOfWrongKind, TooFewArguments, TooManyArguments, TextTooLong, NumberTooLarge, BlankInName, ValueDropped, NotAllowed, WhileWithoutWend}
 use Rattle.recorder.specs.declared.call.Numbers.{Numbers}
 use Rattle.recorder.specs.Word.{flag_of}
-use Rattle.recorder.specs.Recorder.{unknown}
+use Rattle.recorder.specs.Recorder.{unknown, pending_label, pack}
 
 abbrev pub row : ℕ → ℕ → ℕ → ℕ → Numbers
 row k a b c = record { call = k; a = a; b = b; c = c }
 
--- "Each numbered call below appends one record of five words: call number ..., three arguments (0 where unused)." A waiting label and
--- NEXT's symbol stand here plus 1.
+-- one that waits for a label, with the range of a note on it
+abbrev pub waiting : ℕ → ℕ → Option (Range × Label) → Numbers
+waiting k a None = row k a 0 0
+waiting k a (Some (r, l)) = row k a (pending_label l.0) (pack r)
+
+-- "Each numbered call below appends one record of five words: call number ..., three arguments (0 where unused)." NEXT's symbol stands
+-- here plus 1.
 abbrev pub numbers_of : Call → Numbers
 numbers_of NoOp = row 1 0 0 0
 numbers_of (Op statement count) = row 2 statement count 0
@@ -33,8 +40,8 @@ numbers_of AssignInt = row 16 0 0 0
 numbers_of AssignReal = row 17 0 0 0
 numbers_of AssignStr = row 18 0 0 0
 numbers_of Jz = row 19 unknown 0 0
-numbers_of (Goto label packed) = row 20 unknown label packed
-numbers_of (Gosub label packed) = row 21 unknown label packed
+numbers_of (Goto label) = waiting 20 unknown label
+numbers_of (Gosub label) = waiting 21 unknown label
 numbers_of (On count) = row 22 count 0 0
 numbers_of (For symbol step) = row 23 symbol (flag_of step) 0
 numbers_of (Next symbol) = row 24 symbol 0 0
@@ -44,7 +51,7 @@ numbers_of EndDefFn = row 27 0 0 0
 numbers_of (Dim symbol k) = row 28 symbol k 0
 numbers_of (Field count) = row 29 count 0 0
 numbers_of Read = row 30 0 0 0
-numbers_of (Restore label packed) = row 31 0 label packed
+numbers_of (Restore label) = waiting 31 0 label
 numbers_of (KeyboardInput prompt count) = row 32 (flag_of prompt) count 0
 numbers_of (FileInput count) = row 33 count 0 0
 numbers_of (Open mode len) = row 34 mode (flag_of len) 0

@@ -1,13 +1,14 @@
 -- The memory that is compiled into: three lists of words of fixed lengths, and the state.
 -- A put that does not fit changes no word and sets its buffer's flag, which stays.
-use Rattle.std.specs.Prelude.{List, ◌++◌, Bool, true, false, ℕ, zero, suc, ◌+◌, ◌*◌, ◌-◌, ◌/◌, ◌%◌, ◌^◌, min, ltb, eqb, length, get_or, set, take, drop}
+use Rattle.std.specs.Prelude.{List, ◌++◌, Bool, true, false, ℕ, zero, suc, ◌+◌, ◌*◌, ◌-◌, ◌/◌, ◌%◌, ◌^◌, min, ltb, eqb, length, get_or, set, take, drop, Option, None, Some, unwrap_or}
 use Rattle.recorder.specs.declared.word.Range.{Range}
 use Rattle.recorder.specs.declared.codegen.Descent.{Descent}
 use Rattle.recorder.specs.declared.codegen.State.{State}
-use Rattle.recorder.specs.Word.{pick, both, kind, kind_at, payload_at, range_at, word_of, range_word, next}
+use Rattle.recorder.specs.declared.label.DatumIndex.{DatumIndex}
+use Rattle.recorder.specs.Word.{pick, both, kind, kind_at, payload_at, range_at, word_of, range_word, next, plus_one}
 use Rattle.recorder.specs.Name.{upper, same_name}
 use Rattle.recorder.specs.Layout.{rec_size, note_size, entry_size, range_word_at, arg_a, arg_b, arg_c, extra_at, most_records}
-use Rattle.recorder.specs.Ideal.{Rec, rec, name_kind, no_range, look_of, first_of}
+use Rattle.recorder.specs.Ideal.{Rec, rec, name_kind, no_range, look_of}
 use Rattle.recorder.specs.Recorder.{Recorder, Named, Look, unknown}
 use Rattle.recorder.specs.Closing.{is_while, is_wend, is_start, is_end, is_one, is_for, is_next_of, round_up}
 
@@ -34,7 +35,7 @@ abbrev pub names_in : State → ℕ
 names_in s = s.names
 
 abbrev pub root_in : State → ℕ
-root_in s = s.root
+root_in s = plus_one s.root
 
 abbrev pub datums_in : State → ℕ
 datums_in s = s.datums
@@ -45,8 +46,13 @@ bytes_in s = s.bytes
 abbrev pub line_in : State → ℕ
 line_in s = s.line
 
+-- a first datum plus 1; 0 if there is none
+abbrev pub datum_word : Option DatumIndex → ℕ
+datum_word None = 0
+datum_word (Some d) = suc d.0
+
 abbrev pub first_in : State → ℕ
-first_in s = s.first
+first_in s = datum_word s.first
 
 abbrev pub list_full : State → Bool
 list_full s = s.list_full
@@ -64,11 +70,11 @@ nothing = record {
   notes = 0;
   entries = 0;
   names = 0;
-  root = 0;
+  root = None;
   datums = 0;
   bytes = 0;
   line = 0;
-  first = 0;
+  first = None;
   list_full = false;
   notes_full = false;
   book_full = false;
@@ -76,7 +82,7 @@ nothing = record {
 
 -- begin_line: the line that records and notes carry from here on, without a datum so far
 abbrev pub on_line : State → ℕ → State
-on_line s l = record s { line = l; first = 0 }
+on_line s l = record s { line = l; first = None }
 
 -- what of a count goes into a word
 abbrev pub as_word : ℕ → ℕ
@@ -204,9 +210,9 @@ linked_at b k w = pick (ltb w.at (length b / entry_size)) (set b (entry_size * w
 unfoldable pub linked : List ℕ → State → Descent → List ℕ
 linked b s w = pick (both (ltb 0 (root_in s)) (may_link b s)) (linked_at b (entries_in s) w) b
 
--- the first name of the tree plus 1, or 0
-unfoldable pub root_of : List ℕ → State → ℕ
-root_of b s = pick (both (eqb (root_in s) 0) (may_link b s)) (entries_in s + 1) (root_in s)
+-- the first name of the tree
+unfoldable pub root_of : List ℕ → State → Option ℕ
+root_of b s = pick (both (eqb (root_in s) 0) (may_link b s)) (Some (entries_in s)) s.root
 
 -- a new name with the tag v, whose descent ends at w: linked, and put as the next entry
 abbrev pub new_list : List ℕ → State → Descent → ℕ → ℕ → ℕ → ℕ → List ℕ
@@ -243,7 +249,7 @@ unfoldable pub datum_list : List ℕ → State → ℕ → ℕ → ℕ → List 
 datum_list b s x n q = entry_list b s (word_of 51 (low (datums_in s))) x n q
 
 unfoldable pub datum_st : List ℕ → State → State
-datum_st b s = record (entry_st b s) { datums = more (datums_in s) (length b / entry_size); first = first_of (first_in s) (low (datums_in s)) }
+datum_st b s = record (entry_st b s) { datums = more (datums_in s) (length b / entry_size); first = Some (unwrap_or s.first (record { 0 = low (datums_in s) })) }
 
 unfoldable pub byte_list : List ℕ → State → ℕ → ℕ → ℕ → List ℕ
 byte_list b s x n v = entry_list b s (word_of 52 (low (bytes_in s))) x n v

@@ -1,5 +1,5 @@
 -- The words of a sheet and of a list, and the places between them.
-use Rattle.std.specs.Prelude.{List, Bool, true, false, ℕ, ◌+◌, ◌*◌, ◌/◌, ◌%◌, ltb, length, get_or}
+use Rattle.std.specs.Prelude.{List, Bool, true, false, ℕ, suc, ◌+◌, ◌*◌, ◌/◌, ◌%◌, ltb, length, get_or, Option, None, Some}
 use Rattle.recorder.specs.declared.word.Range.{Range}
 
 abbrev pub pick {ℓ} : {A : Type ℓ} → Bool → A → A → A
@@ -54,6 +54,11 @@ range_word r = 16777216 + r.start * 4096 + r.end
 -- "03 label, 0 to 65,535"
 abbrev pub label_at : List ℕ → ℕ → ℕ
 label_at s at = get_or s at 0 % 65536
+
+-- a number that there may be, plus 1; 0 if there is none
+abbrev pub plus_one : Option ℕ → ℕ
+plus_one None = 0
+plus_one (Some k) = suc k
 
 -- a flag in a word: 0 or 1
 abbrev pub flag_of : Bool → ℕ

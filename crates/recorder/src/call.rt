@@ -1,14 +1,14 @@
 // The numbered calls of document 01 and the classes of its notes, by name.
 ghost use Rattle.std.specs.Prelude.{◌≡◌};
-ghost use Rattle.recorder.specs.Word.{flag_of};
-ghost use Rattle.recorder.specs.Calls.{numbers_of, class_number, severity_of};
+ghost use Rattle.recorder.specs.Calls.{waiting, numbers_of, class_number, severity_of};
 
-// What is not yet known of a record: a target, a WHILE's or a DEF's end.
+use crate::label::Label;
+use crate::word::{Range, packed};
+
+// What is not yet known of a record, all ones by document 01: a target, a WHILE's or a DEF's end.
 pub const UNKNOWN: u32 = u32::MAX;
 
-// The numbers of calls that are looked for in a list.
-pub const NO_OP: u8 = 1;
-
+// The numbers of calls that are looked for in a list: an enum would be a second list of the calls beside Call.
 pub const OP: u8 = 2;
 
 pub const NUMBER: u8 = 3;
@@ -27,8 +27,9 @@ pub const WHILE: u8 = 25;
 
 pub const RESTORE: u8 = 31;
 
-// A call and what it says; `numbers` names each part. A jump or a RESTORE that waits for its label keeps the label plus 1 and the
-// packed range of a note; an IF's jump, and a RESTORE without a label, 0 and 0. NEXT's symbol is plus 1, or 0.
+// A call and what it says; `numbers` names each part. A jump or a RESTORE that waits has its label and the range of a note on it; an
+// IF's jump, and a RESTORE without a label, has none. NEXT's symbol is plus 1, or 0, and no Option: `numbers` would add the 1 to any
+// u32, where it could overflow. Statements, functions, operators and modes are the sheet's numbers, also one that names none.
 #[derive(Clone, Copy)]
 pub enum Call {
     NoOp,
@@ -50,8 +51,8 @@ pub enum Call {
     AssignReal,
     AssignStr,
     Jz,
-    Goto(u32, u32),
-    Gosub(u32, u32),
+    Goto(Option<(Range, Label)>),
+    Gosub(Option<(Range, Label)>),
     On(u32),
     For(u32, bool),
     Next(u32),
@@ -61,7 +62,7 @@ pub enum Call {
     Dim(u32, u32),
     Field(u32),
     Read,
-    Restore(u32, u32),
+    Restore(Option<(Range, Label)>),
     KeyboardInput(bool, u32),
     FileInput(u32),
     Open(u32, bool),
@@ -96,11 +97,15 @@ fn row(call: u8, a: u32, b: u32, c: u32) -> Numbers
     Numbers { call, a, b, c }
 }
 
+// One that waits keeps its label plus 1 and the packed range, until closing up settles it.
 #[inline(always)]
-fn flag(b: bool) -> u32
-    ensures { result ≡ flag_of b }
+fn waiting(call: u8, a: u32, label: Option<(Range, Label)>) -> Numbers
+    ensures { result ≡ waiting call a label }
 {
-    if b { 1 } else { 0 }
+    match label {
+        Some((r, l)) => row(call, a, u32::from(l.0) + 1, packed(r)),
+        None => row(call, a, 0, 0),
+    }
 }
 
 impl Call {
@@ -110,7 +115,7 @@ impl Call {
         ensures { result ≡ numbers_of self }
     {
         match self {
-            Call::NoOp => row(NO_OP, 0, 0, 0),
+            Call::NoOp => row(1, 0, 0, 0),
             Call::Op(statement, count) => row(OP, statement, count, 0),
             Call::Number(e, m) => row(NUMBER, e, m, 0),
             Call::String(start, length) => row(4, start, length, 0),
@@ -129,10 +134,10 @@ impl Call {
             Call::AssignReal => row(17, 0, 0, 0),
             Call::AssignStr => row(18, 0, 0, 0),
             Call::Jz => row(19, UNKNOWN, 0, 0),
-            Call::Goto(label, packed) => row(GOTO, UNKNOWN, label, packed),
-            Call::Gosub(label, packed) => row(GOSUB, UNKNOWN, label, packed),
+            Call::Goto(label) => waiting(GOTO, UNKNOWN, label),
+            Call::Gosub(label) => waiting(GOSUB, UNKNOWN, label),
             Call::On(count) => row(22, count, 0, 0),
-            Call::For(symbol, step) => row(FOR, symbol, flag(step), 0),
+            Call::For(symbol, step) => row(FOR, symbol, u32::from(step), 0),
             Call::Next(symbol) => row(NEXT, symbol, 0, 0),
             Call::While(start) => row(WHILE, start, UNKNOWN, 0),
             Call::BeginDefFn(name, parameter) => row(26, name, parameter, UNKNOWN),
@@ -140,10 +145,10 @@ impl Call {
             Call::Dim(symbol, k) => row(28, symbol, k, 0),
             Call::Field(count) => row(29, count, 0, 0),
             Call::Read => row(30, 0, 0, 0),
-            Call::Restore(label, packed) => row(RESTORE, 0, label, packed),
-            Call::KeyboardInput(prompt, count) => row(32, flag(prompt), count, 0),
+            Call::Restore(label) => waiting(RESTORE, 0, label),
+            Call::KeyboardInput(prompt, count) => row(32, u32::from(prompt), count, 0),
             Call::FileInput(count) => row(33, count, 0, 0),
-            Call::Open(mode, len) => row(34, mode, flag(len), 0),
+            Call::Open(mode, len) => row(34, mode, u32::from(len), 0),
             Call::LoadBytes(first, count) => row(35, first, count, 0),
             Call::SetRow => row(36, 0, 0, 0),
             Call::SetColumn => row(37, 0, 0, 0),
@@ -153,8 +158,8 @@ impl Call {
             Call::PrintTab => row(41, 0, 0, 0),
             Call::Newline => row(42, 0, 0, 0),
             Call::Flush => row(43, 0, 0, 0),
-            Call::WriteNum(file, end) => row(44, flag(file), flag(end), 0),
-            Call::WriteStr(file, end) => row(45, flag(file), flag(end), 0),
+            Call::WriteNum(file, end) => row(44, u32::from(file), u32::from(end), 0),
+            Call::WriteStr(file, end) => row(45, u32::from(file), u32::from(end), 0),
             Call::PopNum => row(46, 0, 0, 0),
             Call::PopStr => row(47, 0, 0, 0),
         }
@@ -186,7 +191,8 @@ impl Class {
         self as u8
     }
 
-    // 1 error or 2 warning: document 01's numbers, said here alone.
+    // 1 error or 2 warning, document 01's numbers, said here alone: put_note writes it at once, so an enum would be turned into it where
+    // it is made.
     pub fn severity(self) -> u32
         ensures { result ≡ severity_of self }
     {

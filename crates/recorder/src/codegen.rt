@@ -1,12 +1,11 @@
 // The recorder of codegen.rs, over lent words: records in the list, notes, entries in the book.
 // What does not fit changes no word and sets its buffer's flag, which stays.
 ghost use Rattle.std.specs.Prelude.{◌≡◌, ◌+◌, ◌*◌, ◌-◌, ◌/◌, ◌%◌, Some, None, min, ltb, eqb, length, get_or, set, replicate};
-ghost use Rattle.recorder.specs.Word.{pick, both, payload_at, word_of, range_word};
+ghost use Rattle.recorder.specs.Word.{pick, both, payload_at, word_of, range_word, plus_one};
 ghost use Rattle.recorder.specs.Name.{upper, same_units, same_name};
-ghost use Rattle.recorder.specs.Ideal.{first_of};
-ghost use Rattle.recorder.specs.Layout.{entry_size, extra_at, most_records};
+ghost use Rattle.recorder.specs.Layout.{rec_size, entry_size, extra_at, most_records};
 ghost use Rattle.recorder.specs.Calls.{class_number, severity_of};
-ghost use Rattle.recorder.specs.Mem.{nothing, names_in, sigil_code, link_of, with_link, known, named_at, hash_step, hash_of, descent_to, linked_at, linked, root_in, low, more, four, is_name_entry, tag_of, name_tag, tagged_at, lookup, entry_of, set_a, set_c, settle_args, clear_args, look_at, begin_line, put, put_note, note, note_at, put_entry, new_symbol, make_symbol, emit_datum, load_byte, next_byte, first_datum, current_addr, patched};
+ghost use Rattle.recorder.specs.Mem.{nothing, names_in, as_word, datum_word, sigil_code, link_of, with_link, known, child_of, may_link, root_of, records_in, named_at, hash_step, hash_of, descent_to, linked_at, root_in, low, more, four, tag_of, name_tag, tagged_at, lookup, entry_of, set_a, set_c, settle_args, clear_args, rec_of, look_at, begin_line, put, put_note, note, note_at, put_entry, new_symbol, make_symbol, emit_datum, load_byte, next_byte, first_datum, current_addr, patched};
 ghost use Rattle.recorder.specs.CodeGen.{mem_of, SameLoans, look_is, emit};
 
 use crate::call::{Call, Class};
@@ -32,25 +31,32 @@ pub const C: usize = 4;
 
 pub const EXTRA: usize = 3;
 
+// What an entry of the book is, by the kind of its first word.
+#[derive(Clone, Copy)]
+pub enum EntryKind {
+    Name = 50,
+    Datum = 51,
+    Byte = 52,
+}
+
 // The code of a sigil in its name's entry, until closing up; without a sigil it is 0.
 pub const DOLLAR_CODE: u32 = 1;
 
 pub const PERCENT_CODE: u32 = 2;
 
-// What is in the buffers: the counts of records, notes, entries and names, the first name's entry plus 1 (0 without one), the counts
-// of data and bytes, the current line with its first datum plus 1 (0 while it has none), and whether a record, a note or an entry did
-// not fit.
+// What is in the buffers: the counts of records, notes, entries and names, the first name's entry, the counts of data and bytes, the
+// current line with its first datum, and whether a record, a note or an entry did not fit.
 #[derive(Clone, Copy)]
 pub struct State {
     pub records: usize,
     pub notes: usize,
     pub entries: usize,
     pub names: usize,
-    pub root: usize,
+    pub root: Option<usize>,
     pub datums: usize,
     pub bytes: usize,
     pub line: usize,
-    pub first: usize,
+    pub first: Option<DatumIndex>,
     pub list_full: bool,
     pub notes_full: bool,
     pub book_full: bool,
@@ -67,11 +73,11 @@ impl State {
             notes: 0,
             entries: 0,
             names: 0,
-            root: 0,
+            root: None,
             datums: 0,
             bytes: 0,
             line: 0,
-            first: 0,
+            first: None,
             list_full: false,
             notes_full: false,
             book_full: false,
@@ -80,7 +86,7 @@ impl State {
 }
 
 // The buffers that are compiled into, and what is in them: lent memory of fixed lengths, filled from the front, so the counts are the
-// state's.
+// state's. Each contract says SameLoans, that the buffers stay the lent ones: it speaks of two moments, so no clause of the type can.
 #[derive(Drop)]
 pub struct CodeGen<'a> {
     pub list: &'a mut [u32],
@@ -89,8 +95,9 @@ pub struct CodeGen<'a> {
     pub st: State,
 }
 
-// A name: where its units start in the text, how many they are before its sigil, and the sigil's unit or 0. A start and a length as
-// the words of a book's entry have them; a slice of the text would not say where it lies.
+// A name: where its units start in the text, how many they are before its sigil, and the sigil's unit or 0. A start, a length and a
+// sigil as the words of a book's entry have them: a slice of the text would not say where it lies, and an enum of sigils would be
+// turned back into the unit by each clause.
 #[derive(Clone, Copy)]
 pub struct Name {
     pub start: u32,
@@ -105,7 +112,8 @@ pub struct Descent {
     pub bits: u32,
 }
 
-// Where the descent to a name stops, whether that entry is the name, and the name's tag.
+// Where the descent to a name stops, whether that entry is the name, and the name's tag. No enum: in some states, none that a call
+// leaves, an entry is the name and still not found, and then the descent is needed, too.
 #[derive(Clone, Copy)]
 pub struct Stop {
     pub descent: Descent,
@@ -121,7 +129,7 @@ pub struct Found {
     pub tag: u8,
 }
 
-// What resolution reads of a record.
+// What resolution reads of a record; b and c are its words, as the rules' Look has them: label plus 1, or 0, and the packed range.
 #[derive(Clone, Copy)]
 pub struct Looked {
     pub call: u32,
@@ -134,8 +142,7 @@ pub struct Looked {
 pub fn most_records(words: usize) -> usize
     ensures { result ≡ most_records words }
 {
-    let n = words / RECORD;
-    if n < 65535 { n } else { 65535 }
+    (words / RECORD).min(65535)
 }
 
 fn low_bits(n: usize) -> u32
@@ -151,7 +158,8 @@ fn one_more(n: usize, room: usize) -> usize
     if n < room { n + 1 } else { n }
 }
 
-// The four words of a note or of an entry.
+// The four words of a note or of an entry. Four numbers and no array, which would go through memory (docs/DECISIONS.md, 38); and n
+// beside the words, since of what chunks_mut lends a proof knows the length alone.
 fn put_four(s: &mut [u32], n: usize, h: u32, x: u32, y: u32, z: u32) -> bool
     ensures { (s.new ≡ pick (ltb n (length s.old / 4)) (four s.old n h x y z) s.old) × (result ≡ ltb n (length s.old / 4)) }
 {
@@ -167,6 +175,7 @@ fn put_four(s: &mut [u32], n: usize, h: u32, x: u32, y: u32, z: u32) -> bool
     }
 }
 
+// As u8's and char's method of the name, which u16 has not.
 fn to_ascii_uppercase(x: u16) -> u16
     ensures { result ≡ upper x }
 {
@@ -177,6 +186,7 @@ fn to_ascii_uppercase(x: u16) -> u16
     }
 }
 
+// Behind the text each unit is 0, by the definition: an iterator over slices would end there, and would need that case beside it.
 fn same_units(text: &[u16], a: usize, b: usize, n: u32) -> bool
     ensures { result ≡ same_units text.now a b n }
 {
@@ -192,7 +202,8 @@ fn same_units(text: &[u16], a: usize, b: usize, n: u32) -> bool
     true
 }
 
-// Lengths and sigils first: the units are read only where both agree, and the first that differs ends it.
+// Equal in upper case, which no derive says. Lengths and sigils first: the units are read only where both agree, and the first that
+// differs ends it.
 #[tactic(auto, unfolding(crate::specs::Name::same_name))]
 fn same_name(text: &[u16], a: u32, n: u32, x: u32, name: &Name) -> bool
     ensures { result ≡ same_name text.now a n x name.now.start name.now.len (sigil_code name.now.sigil) }
@@ -202,7 +213,8 @@ fn same_name(text: &[u16], a: u32, n: u32, x: u32, name: &Name) -> bool
         && same_units(&*text, a as usize, name.start as usize, n)
 }
 
-// A name's last word: a code of its sigil in the low 2 bits, and two entries of later names.
+// A name's last word: a code of its sigil in the low 2 bits, and two entries of later names: the names are a tree of entry numbers in
+// the book's own words, since there is no heap (docs/DECISIONS.md, 30).
 fn sigil_code(g: u32) -> u32
     ensures { result ≡ sigil_code g }
 {
@@ -239,7 +251,7 @@ fn hash_step(h: u32, u: u16) -> u32
     ((h as u64 + u as u64) * 2654435769 % 4294967296) as u32
 }
 
-// The hash of a name: its bits choose the children on the descent to it.
+// The hash of a name: its bits choose the children on the descent to it. As in same_units, units behind the text are 0, and count.
 fn hash_of(text: &[u16], at: u32, first: u32, n: u32) -> u32
     ensures { result ≡ hash_of text.now at first n }
 {
@@ -271,27 +283,14 @@ fn name_tag(text: &[u16], name: &Name) -> u8
     tag_of(name_hash(text, name))
 }
 
-// Whether the four words of an entry are a name's, and that name is this one.
-fn is_named(text: &[u16], h: u32, a: u32, n: u32, y: u32, tag: u8, name: &Name) -> bool
-    ensures { result ≡ is_name_entry text.now h a n y tag name.now.start name.now.len name.now.sigil }
-{
-    kind_of(h) == tag as u32 && same_name(&*text, a, n, y % 4, name)
-}
-
+// Whether an entry is a name, and that name is this one.
 fn named_at(text: &[u16], book: &[u32], k: usize, tag: u8, name: &Name) -> bool
     ensures { result ≡ tagged_at text.now book.now k tag name.now.start name.now.len name.now.sigil }
 {
     if k < book.len() / ENTRY {
         let i = ENTRY * k;
-        is_named(
-            &*text,
-            book[i],
-            book[i + 1],
-            book[i + 2],
-            book[i + EXTRA],
-            tag,
-            name,
-        )
+        kind_of(book[i]) == u32::from(tag)
+            && same_name(&*text, book[i + 1], book[i + 2], book[i + EXTRA] % 4, name)
     } else {
         false
     }
@@ -309,34 +308,19 @@ fn next_bits(bits: u32) -> u32
     (bits as u64 * 2 % 4294967296) as u32
 }
 
-// The child that the descent goes on to.
-fn child_of(book: &[u32], at: usize, bits: u32) -> usize
-    ensures { result ≡ pick (ltb at (length book.now / entry_size)) (link_of (ltb 2147483647 bits) (get_or book.now (entry_size * at + extra_at) 0)) 0 }
+// The child that the descent goes on to; 0 for none, which ends it by the test that ends it at any entry not behind this one.
+fn child_of(book: &[u32], descent: &Descent) -> usize
+    ensures { result ≡ child_of book.now descent.now }
 {
+    let at = descent.at;
     if at < book.len() / ENTRY {
-        link_of(is_high(bits), book[ENTRY * at + EXTRA]) as usize
+        link_of(is_high(descent.bits), book[ENTRY * at + EXTRA]) as usize
     } else {
         0
     }
 }
 
-fn may_link(entries: usize, room: usize) -> bool
-    ensures { result ≡ both (ltb entries room) (ltb entries 32768) }
-{
-    entries < room && entries < 32768
-}
-
-fn root_of(root: usize, entries: usize, room: usize) -> usize
-    ensures { result ≡ pick (both (eqb root 0) (both (ltb entries room) (ltb entries 32768))) (entries + 1) root }
-{
-    if root == 0 && may_link(entries, room) {
-        entries + 1
-    } else {
-        root
-    }
-}
-
-// A new name, linked where its descent ends.
+// A new name, linked where its descent ends. Over the book alone: a method's clause would also say that list, notes and state stay.
 #[tactic(auto, unfolding(crate::specs::Mem::linked_at))]
 fn link(book: &mut [u32], descent: &Descent, k: usize)
     ensures { book.new ≡ linked_at book.old k descent.now }
@@ -348,31 +332,6 @@ fn link(book: &mut [u32], descent: &Descent, k: usize)
     }
 }
 
-// The same, where there is a tree and it may hold the next entry.
-#[tactic(auto, unfolding(crate::specs::Mem::linked))]
-fn link_next(book: &mut [u32], st: &State, descent: &Descent)
-    ensures { book.new ≡ linked book.old st.now descent.now }
-{
-    if 0 < st.root {
-        if may_link(st.entries, book.len() / ENTRY) {
-            link(book, descent, st.entries);
-        }
-    }
-}
-
-// Whether the descent in a tree ended at the name itself.
-fn is_reached(root: usize, known: usize, at: usize, named: bool) -> bool
-    ensures { result ≡ both (ltb 0 root) (both (ltb at known) named) }
-{
-    root != 0 && at < known && named
-}
-
-fn first_of(first: usize, n: usize) -> usize
-    ensures { result ≡ first_of first (low n) }
-{
-    if first == 0 { n % 16777216 + 1 } else { first }
-}
-
 // A word of a record, written in the part of the list that begins at the record.
 pub fn set_at(part: &mut [u32], i: usize, v: u32)
     ensures { part.new ≡ set part.old i v }
@@ -380,6 +339,25 @@ pub fn set_at(part: &mut [u32], i: usize, v: u32)
     if i < part.len() {
         part[i] = v;
     }
+}
+
+// Where a record of the list begins.
+pub fn start_of(list: &[u32], k: u32) -> Option<usize>
+    ensures { result ≡ pick (ltb k (length list.now / rec_size)) (Some (rec_size * k)) None }
+{
+    let k = k as usize;
+    if k < list.len() / RECORD {
+        Some(RECORD * k)
+    } else {
+        None
+    }
+}
+
+// The call of a record.
+pub fn call_of(list: &[u32], k: u32) -> u32
+    ensures { result ≡ (rec_of list.now k).call }
+{
+    kind_at(list, RECORD * (k as usize))
 }
 
 fn clear_args(part: &mut [u32])
@@ -409,10 +387,11 @@ impl CodeGen<'_> {
         ensures value { mem_of self.new ≡ begin_line (mem_of self.old) line }
     {
         self.st.line = line as usize;
-        self.st.first = 0;
+        self.st.first = None;
     }
 
-    // A record: its call, the current line, its range, three arguments.
+    // A record: its call, the current line, its range, three arguments. Four numbers and no Numbers: a struct goes through memory when
+    // it is passed (docs/DECISIONS.md, 38), and every record passes here.
     #[tactic(auto, unfolding(crate::specs::Mem::put_list, crate::specs::Mem::put_st))]
     fn put(&mut self, r: Range, call: u8, a: u32, b: u32, c: u32)
         ensures same { SameLoans self.old self.new }
@@ -444,7 +423,7 @@ impl CodeGen<'_> {
         self.put(r, n.call, n.a, n.b, n.c)
     }
 
-    // A note, its range as a word.
+    // A note, its range as a word. put_entry differs in three fields: one function for both would be lent buffer, count and flag.
     #[tactic(auto, unfolding(crate::specs::Mem::note_list, crate::specs::Mem::note_st))]
     pub fn put_note(&mut self, class: Class, line: u32, w: u32)
         ensures same { SameLoans self.old self.new }
@@ -464,8 +443,7 @@ impl CodeGen<'_> {
         ensures same { SameLoans self.old self.new }
         ensures value { mem_of self.new ≡ note (mem_of self.old) (class_number class) r (severity_of class) }
     {
-        let line = low_bits(self.st.line);
-        self.put_note(class, line, range_word(r))
+        self.note_at(low_bits(self.st.line), class, r)
     }
 
     // A note on a line that is named.
@@ -496,6 +474,25 @@ impl CodeGen<'_> {
         self.st.entries.min(self.book.len() / ENTRY)
     }
 
+    // Whether the next entry is one that a tree may hold.
+    fn may_link(&self) -> bool
+        ensures { result ≡ may_link self.now.book.now self.now.st }
+    {
+        self.st.entries < self.book.len() / ENTRY && self.st.entries < 32768
+    }
+
+    // The first name's entry, once the next entry is a name.
+    #[tactic(auto, unfolding(crate::specs::Mem::root_of))]
+    fn root_of(&self) -> Option<usize>
+        ensures { result ≡ root_of self.now.book.now self.now.st }
+    {
+        if self.st.root.is_none() && self.may_link() {
+            Some(self.st.entries)
+        } else {
+            self.st.root
+        }
+    }
+
     // The number within its kind of an entry that the book has.
     #[inline(always)]
     fn number_at(&self, k: usize) -> Option<u32>
@@ -508,7 +505,8 @@ impl CodeGen<'_> {
         }
     }
 
-    // The first entry from the k-th on that is this name, or how many are known.
+    // The first entry from `from` on that is this name, or how many are known, as the definition (lookup) counts: each clause would turn
+    // an Option back into that count.
     fn find(&self, text: &[u16], name: &Name, from: usize) -> usize
         ensures { result ≡ lookup text.now self.now.book.now name.now.start name.now.len name.now.sigil from (known self.now.book.now self.now.st - from) }
     {
@@ -525,12 +523,13 @@ impl CodeGen<'_> {
         end
     }
 
-    // The descent to a name, up to the name or to where it would be linked.
+    // The descent to a name, up to the name or to where it would be linked. Without a first name it starts at entry 0, as the definition
+    // does: entry_of and new_symbol take nothing of where it stops then.
     fn descent_to(&self, text: &[u16], name: &Name) -> Stop
         ensures { (result.descent ≡ descent_to text.now self.now.book.now self.now.st name.now.start name.now.len name.now.sigil) × (result.named ≡ named_at text.now self.now.book.now result.descent.at name.now.start name.now.len name.now.sigil) × (result.tag ≡ name_tag text.now name.now.start name.now.len name.now.sigil) }
     {
         let end = self.known();
-        let mut at = self.st.root.saturating_sub(1);
+        let mut at = self.st.root.unwrap_or(0);
         let hash = name_hash(&*text, name);
         let tag = tag_of(hash);
         let mut bits = hash;
@@ -543,7 +542,7 @@ impl CodeGen<'_> {
                     tag,
                 };
             }
-            let k = child_of(&*self.book, at, bits);
+            let k = child_of(&*self.book, &descent);
             if k <= at || end <= k {
                 return Stop {
                     descent,
@@ -561,49 +560,50 @@ impl CodeGen<'_> {
         }
     }
 
-    // The entry of a name whose descent ends at `at`, or how many are known.
+    // The entry of a name whose descent stopped there, or how many are known.
     #[tactic(auto, unfolding(crate::specs::Mem::entry_of))]
-    fn entry_of(&self, text: &[u16], at: usize, named: bool, name: &Name) -> usize
-        ensures { result ≡ pick (both (ltb 0 (root_in self.now.st)) (both (ltb at (known self.now.book.now self.now.st)) named)) at (lookup text.now self.now.book.now name.now.start name.now.len name.now.sigil (min (known self.now.book.now self.now.st) 32768) (known self.now.book.now self.now.st - 32768)) }
+    fn entry_of(&self, text: &[u16], stop: &Stop, name: &Name) -> usize
+        ensures { result ≡ pick (both (ltb 0 (root_in self.now.st)) (both (ltb stop.now.descent.at (known self.now.book.now self.now.st)) stop.now.named)) stop.now.descent.at (lookup text.now self.now.book.now name.now.start name.now.len name.now.sigil (min (known self.now.book.now self.now.st) 32768) (known self.now.book.now self.now.st - 32768)) }
     {
         let end = self.known();
-        if is_reached(self.st.root, end, at, named) {
+        let at = stop.descent.at;
+        if self.st.root.is_some() && at < end && stop.named {
             return at;
         }
         self.find(&*text, name, end.min(32768))
     }
 
-    // The search for a name. Slices go on as `&*` here and in what it calls: a copied one is written in two parts and read as one, for
+    // The search for a name. Text and name stay two: a struct of both would be made in make_symbol alone, and each clause would name its
+    // two parts again. Slices go on as `&*` here and in what it calls: a copied one is written in two parts and read as one, for
     // which the processor waits.
     #[tactic(auto, unfolding(crate::specs::Mem::entry_of))]
     fn find_symbol(&self, text: &[u16], name: &Name) -> Found
         ensures { (result.descent ≡ descent_to text.now self.now.book.now self.now.st name.now.start name.now.len name.now.sigil) × (result.entry ≡ entry_of text.now self.now.book.now self.now.st name.now.start name.now.len name.now.sigil) × (result.tag ≡ name_tag text.now name.now.start name.now.len name.now.sigil) }
     {
         let stop = self.descent_to(&*text, name);
-        let descent = stop.descent;
-        let at = descent.at;
-        let entry = self.entry_of(&*text, at, stop.named, name);
+        let entry = self.entry_of(&*text, &stop, name);
         Found {
-            descent,
+            descent: stop.descent,
             entry,
             tag: stop.tag,
         }
     }
 
     // A new name: linked where its descent ends, and put into the book.
-    #[tactic(auto, unfolding(crate::specs::Mem::entry_list, crate::specs::Mem::entry_st, crate::specs::Mem::root_of))]
-    fn new_symbol(&mut self, descent: &Descent, tag: u8, name: &Name) -> u32
+    #[tactic(auto, unfolding(crate::specs::Mem::linked, crate::specs::Mem::entry_list, crate::specs::Mem::entry_st))]
+    fn new_symbol(&mut self, found: &Found, name: &Name) -> u32
         ensures same { SameLoans self.old self.new }
-        ensures value { mem_of self.new ≡ new_symbol (mem_of self.old) descent.now tag name.now.start name.now.len name.now.sigil }
+        ensures value { mem_of self.new ≡ new_symbol (mem_of self.old) found.now.descent found.now.tag name.now.start name.now.len name.now.sigil }
         ensures number { result ≡ low (names_in self.old.st) }
     {
-        let room = self.book.len() / ENTRY;
-        link_next(self.book, &self.st, descent);
         let number = low_bits(self.st.names);
-        let names = one_more(self.st.names, room);
-        let root = root_of(self.st.root, self.st.entries, room);
+        let names = one_more(self.st.names, self.book.len() / ENTRY);
+        let root = self.root_of();
+        if self.st.root.is_some() && self.may_link() {
+            link(self.book, &found.descent, self.st.entries);
+        }
         self.put_entry(
-            word_of(tag, number),
+            word_of(found.tag, number),
             name.start,
             name.len,
             sigil_code(name.sigil),
@@ -620,15 +620,15 @@ impl CodeGen<'_> {
         ensures value { mem_of self.new ≡ (make_symbol text.now (mem_of self.old) name.now.start name.now.len name.now.sigil).state }
         ensures number { result ≡ (make_symbol text.now (mem_of self.old) name.now.start name.now.len name.now.sigil).number }
     {
-        let f = self.find_symbol(&*text, name);
-        let descent = f.descent;
-        match self.number_at(f.entry) {
+        let found = self.find_symbol(&*text, name);
+        match self.number_at(found.entry) {
             Some(number) => number,
-            None => self.new_symbol(&descent, f.tag, name),
+            None => self.new_symbol(&found, name),
         }
     }
 
-    // A datum: where it stands in the text, and whether it was quoted.
+    // A datum: where it stands in the text, and whether it was quoted, as the sheet's word says, which goes into the book as it stands.
+    // load_byte differs in count, kind and the line's first datum. start and len are made for this one call, so no struct holds them.
     #[tactic(auto, unfolding(crate::specs::Mem::datum_list, crate::specs::Mem::datum_st))]
     pub fn emit_datum(&mut self, start: u32, len: u32, quoted: u32)
         ensures same { SameLoans self.old self.new }
@@ -636,8 +636,8 @@ impl CodeGen<'_> {
     {
         let number = low_bits(self.st.datums);
         let datums = one_more(self.st.datums, self.book.len() / ENTRY);
-        let first = first_of(self.st.first, self.st.datums);
-        self.put_entry(word_of(51, number), start, len, quoted);
+        let first = Some(self.st.first.unwrap_or(DatumIndex(number)));
+        self.put_entry(word_of(EntryKind::Datum as u8, number), start, len, quoted);
         self.st.datums = datums;
         self.st.first = first;
     }
@@ -650,7 +650,7 @@ impl CodeGen<'_> {
     {
         let number = low_bits(self.st.bytes);
         let bytes = one_more(self.st.bytes, self.book.len() / ENTRY);
-        self.put_entry(word_of(52, number), start, len, value);
+        self.put_entry(word_of(EntryKind::Byte as u8, number), start, len, value);
         self.st.bytes = bytes;
     }
 
@@ -661,11 +661,11 @@ impl CodeGen<'_> {
         low_bits(self.st.bytes)
     }
 
-    // The current line's first datum plus 1, 0 while it has none.
-    pub fn first_datum(&self) -> u32
-        ensures { result ≡ first_datum (mem_of self.now) }
+    // The current line's first datum.
+    pub fn first_datum(&self) -> Option<DatumIndex>
+        ensures { as_word (datum_word result) ≡ first_datum (mem_of self.now) }
     {
-        (self.st.first % 4294967296) as u32
+        self.st.first
     }
 
     pub fn current_addr(&self) -> Addr
@@ -674,18 +674,25 @@ impl CodeGen<'_> {
         Addr((self.st.records % 4294967296) as u32)
     }
 
+    // Where a record begins that is written and in the list.
+    fn start_of(&self, k: u32) -> Option<usize>
+        ensures { result ≡ pick (both (ltb k (records_in self.now.st)) (ltb k (length self.now.list.now / rec_size))) (Some (rec_size * k)) None }
+    {
+        if (k as usize) < self.st.records {
+            start_of(self.list, k)
+        } else {
+            None
+        }
+    }
+
     // A word of the record at an address: the target, now known.
     #[tactic(auto, unfolding(crate::specs::Mem::on_rec, crate::specs::Mem::at_rec, crate::specs::Mem::part))]
     fn patch(&mut self, at: Addr, i: usize, target: Addr)
         ensures same { SameLoans self.old self.new }
         ensures value { mem_of self.new ≡ patched (λ p. set p i target.0) (mem_of self.old) at.0 }
     {
-        let k = at.0 as usize;
-        if k < self.st.records {
-            if k < self.list.len() / RECORD {
-                let from = RECORD * k;
-                set_at(&mut self.list[from..], i, target.0);
-            }
+        if let Some(from) = self.start_of(at.0) {
+            set_at(&mut self.list[from..], i, target.0);
         }
     }
 
@@ -710,16 +717,13 @@ impl CodeGen<'_> {
         ensures same { SameLoans self.old self.new }
         ensures value { mem_of self.new ≡ patched (settle_args v) (mem_of self.old) k }
     {
-        let i = k as usize;
-        if i < self.st.records {
-            if i < self.list.len() / RECORD {
-                let from = RECORD * i;
-                settle_args(&mut self.list[from..], v);
-            }
+        if let Some(from) = self.start_of(k) {
+            settle_args(&mut self.list[from..], v);
         }
     }
 
-    // A pending jump that is settled: its target, and its label is gone.
+    // A pending jump that is settled: its target, and its label is gone. This one and the next are two over settle_at, since a target and
+    // a DATA index are two number types.
     pub fn settle(&mut self, at: Addr, target: Addr)
         ensures same { SameLoans self.old self.new }
         ensures value { mem_of self.new ≡ patched (settle_args target.0) (mem_of self.old) at.0 }
@@ -741,12 +745,8 @@ impl CodeGen<'_> {
         ensures same { SameLoans self.old self.new }
         ensures value { mem_of self.new ≡ patched clear_args (mem_of self.old) at.0 }
     {
-        let i = at.0 as usize;
-        if i < self.st.records {
-            if i < self.list.len() / RECORD {
-                let from = RECORD * i;
-                clear_args(&mut self.list[from..]);
-            }
+        if let Some(from) = self.start_of(at.0) {
+            clear_args(&mut self.list[from..]);
         }
     }
 
@@ -754,7 +754,7 @@ impl CodeGen<'_> {
     pub fn call_at(&self, at: Addr) -> u32
         ensures { result ≡ (look_at self.now.list.now at.0).call }
     {
-        kind_at(self.list, RECORD * (at.0 as usize))
+        call_of(self.list, at.0)
     }
 
     // What stands at an address.

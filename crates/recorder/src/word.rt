@@ -1,5 +1,6 @@
 // The words of a sheet and of a list: a kind in the top 8 bits, a payload in the low 24.
 ghost use Rattle.std.specs.Prelude.{◌≡◌, get_or};
+ghost use Rattle.recorder.specs.Recorder.{pack, unpack};
 ghost use Rattle.recorder.specs.Word.{kind, payload, kind_at, payload_at, word_of, next, range_of, range_at, range_word};
 
 // A range within its line: from start up to, but without, end.
@@ -25,11 +26,11 @@ pub fn payload_of(w: u32) -> u32
 pub fn word_of(kind: u8, n: u32) -> u32
     ensures { result ≡ word_of kind n }
 {
-    (kind as u32) * 16777216 + n % 16777216
+    u32::from(kind) * 16777216 + n % 16777216
 }
 
-// The word at a place, 0 behind the end. Words and units have a function each: a contract over any type with a default knows that
-// default only by what holds of it.
+// The word at a place, 0 behind the end. Words and units have a function each: with Default the contract would not say 0, and with the
+// value as a parameter each call would name it.
 pub fn word_at(s: &[u32], at: usize) -> u32
     ensures { result ≡ get_or s.now at 0 }
 {
@@ -63,6 +64,7 @@ pub fn unit_at(t: &[u16], at: usize) -> u16
     if at < t.len() { t[at] } else { 0 }
 }
 
+// A range has two forms as a number, the sheet's word and, in a record that waits, the packed one; so neither is a From.
 pub fn range_of(w: u32) -> Range
     ensures { result ≡ range_of w }
 {
@@ -82,5 +84,20 @@ pub fn range_at(s: &[u32], at: usize) -> Range
 pub fn range_word(r: Range) -> u32
     ensures { result ≡ range_word r }
 {
-    16777216 + (r.start as u32) * 4096 + (r.end as u32)
+    16777216 + u32::from(r.start) * 4096 + u32::from(r.end)
+}
+
+pub fn packed(r: Range) -> u32
+    ensures { result ≡ pack r }
+{
+    u32::from(r.start) * 65536 + u32::from(r.end)
+}
+
+pub fn unpacked(c: u32) -> Range
+    ensures { result ≡ unpack c }
+{
+    Range {
+        start: (c / 65536) as u16,
+        end: (c % 65536) as u16,
+    }
 }

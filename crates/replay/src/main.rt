@@ -51,7 +51,7 @@ fn front(buffer: &mut [u32], count: u32) -> &mut [u32] {
     &mut buffer[..fitting]
 }
 
-// An answer's five numbers on a line.
+// An answer's five numbers on a line. Zeros where there are none are the line's form, which the oracle's stored output has, too.
 fn print_counts<W: Write>(out: &mut W, refusal: u32, place: usize, sizes: &Sizes) -> io::Result<()>
     ensures { OnOk result (Appends (W.contents out.old) (W.contents out.new)
         (line_of (counts_text refusal place sizes.now.records sizes.now.notes sizes.now.entries))) }
@@ -82,11 +82,7 @@ fn print_answer<W: Write>(
             feed::print_rows(out, "b", book.as_chunks::<4>().0, sizes.entries)
         }
         Err(refusal) => {
-            let none = Sizes {
-                records: 0,
-                notes: 0,
-                entries: 0,
-            };
+            let none = Sizes::default();
             print_counts(out, refusal.number(), refusal.place(), &none)
         }
     }

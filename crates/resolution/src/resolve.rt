@@ -1,45 +1,20 @@
 // "After the lines: jumps in order of pending, then RESTOREs": resolve_labels and resolve_datum_indices of compiler.rs.
-ghost use Rattle.std.specs.Prelude.{◌≡◌, ◌<◌, List, ℕ, eqb, MatchOption};
-ghost use Rattle.recorder.specs.Word.{either};
+ghost use Rattle.std.specs.Prelude.{◌≡◌, ◌<◌, List, ℕ, MatchOption};
 ghost use Rattle.recorder.specs.Ideal.{missing};
-ghost use Rattle.recorder.specs.Recorder.{unpack};
-ghost use Rattle.recorder.specs.Marks.{Mark, addr_of, data_of};
-ghost use Rattle.labels.specs.MarkWords.{target_found, start_found};
+ghost use Rattle.recorder.specs.Marks.{Mark};
 ghost use Rattle.labels.specs.MarksIn.{MarksIn};
 ghost use Rattle.labels.specs.Indexed.{Indexed};
-ghost use Rattle.recorder.specs.Mem.{Mem, mem_r, as_word, records_in, look_at};
+ghost use Rattle.recorder.specs.Mem.{Mem, mem_r, as_word, records_in, look_at, patched, settle_args};
 ghost use Rattle.recorder.specs.Calls.{class_number, severity_of};
 ghost use Rattle.recorder.specs.CodeGen.{mem_of, SameLoans};
-ghost use Rattle.rules.specs.Program.{Lines, settle_by, resolve_labels, resolve_datum_indices, close_up};
-ghost use Rattle.resolution.specs.Looks.{as_look, settle_waiting};
+ghost use Rattle.rules.specs.Program.{Lines, Waiting, jumps, restores, settle_by, settle_waiting, resolve, resolve_labels, resolve_datum_indices, close_up};
+ghost use Rattle.resolution.specs.Looks.{as_look, search_of};
 
 use labels::chains::Chains;
 use recorder::call::{Class, GOSUB, GOTO, RESTORE};
 use recorder::codegen::{CodeGen, Looked};
 use recorder::label::{Addr, DatumIndex, Label};
-use recorder::word::Range;
-
-// The range that a waiting record keeps as one number.
-fn unpacked(c: u32) -> Range
-    ensures { result ≡ unpack c }
-{
-    Range {
-        start: (c / 65536) as u16,
-        end: (c % 65536) as u16,
-    }
-}
-
-fn is_jump(call: u32) -> bool
-    ensures { result ≡ either (eqb call 20) (eqb call 21) }
-{
-    call == u32::from(GOTO) || call == u32::from(GOSUB)
-}
-
-fn is_restore(call: u32) -> bool
-    ensures { result ≡ eqb call 31 }
-{
-    call == u32::from(RESTORE)
-}
+use recorder::word::unpacked;
 
 // A line's label has 16 bits: no line has a larger one.
 fn narrow_label(label: u32) -> Option<Label>
@@ -48,91 +23,135 @@ fn narrow_label(label: u32) -> Option<Label>
     u16::try_from(label).ok().map(Label)
 }
 
-// The address of a label's line.
-#[tactic(auto, using(crate::proofs::SearchLaws::no_target))]
-fn target_of(chains: &Chains, label: u32) -> Option<Addr>
-    ensures { (ms : List Mark) → Indexed chains.now ms → result ≡ target_found (addr_of ms label) }
-{
-    chains.find_label(narrow_label(label)?)
+// What a record that waits for a label gets: its line's address, or its first datum's index.
+trait Target {
+    // What waits for it, by the rules.
+    ghost waiting: { Waiting };
+
+    // What the record gets of it.
+    ghost number: { Self → ℕ };
+
+    // Whether records of that call wait for it.
+    fn is_awaited(call: u32) -> bool
+        ensures { result ≡ waiting.waits call };
+
+    // What a label names.
+    fn find(chains: &Chains, label: u32) -> Option<Self>
+        ensures { (ms : List Mark) → Indexed chains.now ms → search_of number result ≡ waiting.find ms label };
+
+    // The note where the label names none.
+    fn missing() -> Class
+        ensures { (class_number result ≡ waiting.class) × (severity_of result ≡ waiting.severity) };
+
+    fn settle(self, code: &mut CodeGen, at: Addr)
+        ensures same { SameLoans code.old code.new }
+        ensures value { mem_of code.new ≡ patched (settle_args (number self)) (mem_of code.old) at.0 };
 }
 
-// A label's first datum.
-#[tactic(auto, using(crate::proofs::SearchLaws::no_start))]
-fn start_of(chains: &Chains, label: u32) -> Option<DatumIndex>
-    ensures { (ms : List Mark) → Indexed chains.now ms → result ≡ start_found (data_of ms label) }
-{
-    chains.find_datum(narrow_label(label)?)
+// A jump's target: "2 target missing" where there is no line.
+impl Target for Addr {
+    ghost waiting = { jumps };
+
+    ghost number = { λ a. a.0 };
+
+    fn is_awaited(call: u32) -> bool {
+        call == u32::from(GOTO) || call == u32::from(GOSUB)
+    }
+
+    #[tactic(auto, using(crate::proofs::SearchLaws::no_target, crate::proofs::SearchLaws::target_is))]
+    fn find(chains: &Chains, label: u32) -> Option<Self> {
+        chains.find_label(narrow_label(label)?)
+    }
+
+    fn missing() -> Class {
+        Class::TargetMissing
+    }
+
+    fn settle(self, code: &mut CodeGen, at: Addr) {
+        code.settle(at, self)
+    }
+}
+
+// A RESTORE's target: "3 RESTORE target missing (warning)" where there is no datum.
+impl Target for DatumIndex {
+    ghost waiting = { restores };
+
+    ghost number = { λ d. d.0 };
+
+    fn is_awaited(call: u32) -> bool {
+        call == u32::from(RESTORE)
+    }
+
+    #[tactic(auto, using(crate::proofs::SearchLaws::no_start, crate::proofs::SearchLaws::start_is))]
+    fn find(chains: &Chains, label: u32) -> Option<Self> {
+        chains.find_datum(narrow_label(label)?)
+    }
+
+    fn missing() -> Class {
+        Class::RestoreTargetMissing
+    }
+
+    fn settle(self, code: &mut CodeGen, at: Addr) {
+        code.patch_datum_index(at, self)
+    }
 }
 
 // One whose label is nowhere: it waits no more, and its own line gets a note.
-fn miss(code: &mut CodeGen, k: u32, q: Looked, class: Class)
+fn miss<T: Target>(code: &mut CodeGen, k: u32, q: Looked)
     ensures same { SameLoans code.old code.new }
-    ensures value { (t : List ℕ) → mem_of code.new ≡ settle_by (mem_r t) missing (class_number class) (severity_of class) k (as_look q) (mem_of code.old) }
+    ensures value { (t : List ℕ) → mem_of code.new ≡ settle_by (mem_r t) T.waiting missing k (as_look q) (mem_of code.old) }
 {
     code.drop_label(Addr(k));
     let r = unpacked(q.c);
-    code.note_at(q.line, class, r)
+    code.note_at(q.line, T::missing(), r)
 }
 
-// A jump: its label's line, or "2 target missing".
-#[tactic(auto, using(crate::proofs::ResolveLaws::look_is, crate::proofs::ResolveLaws::settles, crate::proofs::SearchLaws::target_is))]
-fn settle_jump(code: &mut CodeGen, chains: &Chains, k: u32)
+// The record at k: one that waits gets what its label names, or a note. The lines ms that the chains were made of (Indexed) are the
+// rules' list: no value of the code has them, so each contract asks. code is written and chains are read, so they are no struct.
+// k counts as in the rules, and each call of the recorder is given it as an Addr.
+fn settle_waiting<T: Target>(code: &mut CodeGen, chains: &Chains, k: u32)
     ensures same { SameLoans code.old code.new }
-    ensures value { (t : List ℕ) (ms : List Mark) → Indexed chains.now ms → mem_of code.new ≡ settle_waiting t (addr_of ms) 2 1 k (look_at code.old.list.now k) (mem_of code.old) }
+    ensures value { (t : List ℕ) (ms : List Mark) → Indexed chains.now ms → mem_of code.new ≡ settle_waiting (mem_r t) T.waiting ms k (look_at code.old.list.now k) (mem_of code.old) }
 {
+    if !T::is_awaited(code.call_at(Addr(k))) {
+        return;
+    }
     let q = code.look(Addr(k));
     let Some(label) = q.b.checked_sub(1) else {
         return;
     };
-    let Some(a) = target_of(chains, label) else {
-        miss(code, k, q, Class::TargetMissing);
+    let Some(target) = T::find(chains, label) else {
+        miss::<T>(code, k, q);
         return;
     };
-    code.settle(Addr(k), a);
+    target.settle(code, Addr(k))
 }
 
-// A RESTORE: its label's first datum, or "3 RESTORE target missing (warning)".
-#[tactic(auto, using(crate::proofs::ResolveLaws::look_is, crate::proofs::ResolveLaws::settles, crate::proofs::SearchLaws::start_is))]
-fn settle_restore(code: &mut CodeGen, chains: &Chains, k: u32)
+fn resolve_waiting<T: Target>(code: &mut CodeGen, chains: &Chains)
     ensures same { SameLoans code.old code.new }
-    ensures value { (t : List ℕ) (ms : List Mark) → Indexed chains.now ms → mem_of code.new ≡ settle_waiting t (data_of ms) 3 2 k (look_at code.old.list.now k) (mem_of code.old) }
+    ensures value { (t : List ℕ) (ms : List Mark) → Indexed chains.now ms → mem_of code.new ≡ resolve (mem_r t) T.waiting ms 0 (as_word (records_in code.old.st)) (mem_of code.old) }
 {
-    let q = code.look(Addr(k));
-    let Some(label) = q.b.checked_sub(1) else {
-        return;
-    };
-    let Some(d) = start_of(chains, label) else {
-        miss(code, k, q, Class::RestoreTargetMissing);
-        return;
-    };
-    code.patch_datum_index(Addr(k), d);
+    let end = code.current_addr();
+    for k in 0..end.0 {
+        settle_waiting::<T>(code, chains, k);
+    }
 }
 
 pub fn resolve_labels(code: &mut CodeGen, chains: &Chains)
     ensures same { SameLoans code.old code.new }
     ensures value { (t : List ℕ) (ms : List Mark) → Indexed chains.now ms → mem_of code.new ≡ resolve_labels (mem_r t) ms 0 (as_word (records_in code.old.st)) (mem_of code.old) }
 {
-    let end = code.current_addr();
-    for k in 0..end.0 {
-        if is_jump(code.call_at(Addr(k))) {
-            settle_jump(code, chains, k);
-        }
-    }
+    resolve_waiting::<Addr>(code, chains)
 }
 
 pub fn resolve_datum_indices(code: &mut CodeGen, chains: &Chains)
     ensures same { SameLoans code.old code.new }
     ensures value { (t : List ℕ) (ms : List Mark) → Indexed chains.now ms → mem_of code.new ≡ resolve_datum_indices (mem_r t) ms 0 (as_word (records_in code.old.st)) (mem_of code.old) }
 {
-    let end = code.current_addr();
-    for k in 0..end.0 {
-        if is_restore(code.call_at(Addr(k))) {
-            settle_restore(code, chains, k);
-        }
-    }
+    resolve_waiting::<DatumIndex>(code, chains)
 }
 
-// "Closing up": jumps, RESTOREs, then WHILEs, delays and End. The names' links go. The lines in work are put into chains.
+// "Closing up": jumps, RESTOREs, then WHILEs, delays and End. The names' links go. The n lines in work are put into chains.
 pub fn close_up(code: &mut CodeGen, work: &mut [u32], n: usize)
     ensures same { SameLoans code.old code.new }
     ensures value { (t : List ℕ) (c : Lines Mem) → c.state ≡ mem_of code.old → MarksIn work.old n c.marks → mem_of code.new ≡ close_up (mem_r t) c }

@@ -8,7 +8,7 @@ use Rattle.recorder.specs.Ideal.{Rec, rec, no_rec, Note, note_of, Entry, Ideal, 
 use Rattle.recorder.specs.Marks.{Mark, addr_of, data_of, or_else}
 use Rattle.recorder.specs.Closing.{rules_r, is_wend, is_while, closes, opened, end_from, end_at, close_whiles, open_note, open_notes}
 use Rattle.recorder.proofs.Bools.{both_left, both_right}
-use Rattle.rules.specs.Program.{is_pending_jump, is_pending_restore, settle_by, settle_jump, settle_restore, resolve_labels, resolve_datum_indices}
+use Rattle.rules.specs.Program.{Waiting, jumps, restores, is_pending, settle_by, settle_waiting, resolve}
 use Rattle.rules.specs.Missing.{All}
 use Rattle.rules.specs.Piles.{Pile, wants_of, taken, step}
 use Rattle.rules.specs.Demand.{NoError, targets}
@@ -33,15 +33,16 @@ abbrev pub settle_rec : Search → Rec → Rec
 settle_rec (found v) r = settled v r
 settle_rec missing r = unlabelled r
 
-abbrev pub jump_to : List Mark → Rec → Rec
-jump_to ms r = pick (is_pending_jump (look_of r)) (settle_rec (addr_of ms (r.b - 1)) r) r
-
-abbrev pub restore_to : List Mark → Rec → Rec
-restore_to ms r = pick (is_pending_restore (look_of r)) (settle_rec (data_of ms (r.b - 1)) r) r
+-- what becomes of one that waits
+abbrev pub settle_to : Waiting → List Mark → Rec → Rec
+settle_to w ms r = pick (is_pending w (look_of r)) (settle_rec (w.find ms (r.b - 1)) r) r
 
 -- a pending record without an error is found
 abbrev pub Finds : Bool → ℕ → Search → Type 0
 Finds p severity s = p ≡ true → severity ≡ 1 → (v : ℕ) × (s ≡ found v)
+
+abbrev pub Settles : Waiting → List Mark → Rec → Type 0
+Settles w ms r = Finds (is_pending w (look_of r)) w.severity (w.find ms (r.b - 1))
 
 pass_two : {i j f : Ideal} {rs us : List Rec} {G H : Type 0} → Pass i j rs G → Pass j f us H → Pass i f us (G × H)
 pass_two {i} {j} {f} a b = record {
@@ -62,25 +63,26 @@ module _ (t : List ℕ) where
   abbrev R : Recorder Ideal
   R = rules_r t
 
-  settle_pass : (p : Bool) (s : Search) (class severity : ℕ) (r : Rec) (front back : List Rec) (k : ℕ) (i : Ideal) → i.records ≡ front ++ (r ∷ back) → k ≡ length front
-      → Pass i (pick p (settle_by R s class severity k (look_of r) i) i) ((front ++ (pick p (settle_rec s r) r ∷ [])) ++ back) (Finds p severity s)
-  settle_pass false s class severity r front back k i e h = record {
+  settle_pass : (w : Waiting) (p : Bool) (s : Search) (r : Rec) (front back : List Rec) (k : ℕ) (i : Ideal)
+      → i.records ≡ front ++ (r ∷ back) → k ≡ length front
+      → Pass i (pick p (settle_by R w s k (look_of r) i) i) ((front ++ (pick p (settle_rec s r) r ∷ [])) ++ back) (Finds p w.severity s)
+  settle_pass w false s r front back k i e h = record {
     records = e ∙ sym (append_assoc front (r ∷ []) back);
     fresh = [];
     notes = sym (append-nil i.notes);
     entries = refl;
     ok = λ n q. let z : ◌≡◌ {A = ℕ} 0 1 = cc in absurd (omega arith);
   }
-  settle_pass true (found v) class severity r front back k i e h = record {
+  settle_pass w true (found v) r front back k i e h = record {
     records = change_there (settled v) i.records front back r k e h;
     fresh = [];
     notes = sym (append-nil i.notes);
     entries = refl;
     ok = λ n q m. (v, refl);
   }
-  settle_pass true missing class severity r front back k i e h = record {
+  settle_pass w true missing r front back k i e h = record {
     records = change_there unlabelled i.records front back r k e h;
-    fresh = note_of class r.line (unpack r.c) severity ∷ [];
+    fresh = note_of w.class r.line (unpack r.c) w.severity ∷ [];
     notes = refl;
     entries = refl;
     ok = λ n q m. absurd (omega (arith, n.0));
@@ -89,35 +91,21 @@ module _ (t : List ℕ) where
   found_here : (xs front back : List Rec) (r : Rec) (k : ℕ) → xs ≡ front ++ (r ∷ back) → k ≡ length front → get_or xs k no_rec ≡ r
   found_here xs front back r k e h = rw (e, h) (get_or-append_seam front r back no_rec)
 
-  pub pass_labels : (ms : List Mark) (front back : List Rec) (k : ℕ) (i : Ideal) → i.records ≡ front ++ back → k ≡ length front
-      → Pass i (resolve_labels R ms k (length back) i) (front ++ each (jump_to ms) back) (All (λ (r : Rec). Finds (is_pending_jump (look_of r)) 1 (addr_of ms (r.b - 1))) back)
-  unfolding resolve_labels
-  pass_labels ms front [] k i e h = record { records = e; fresh = []; notes = sym (append-nil i.notes); entries = refl; ok = λ n. tt }
-  pass_labels ms front (r ∷ back) k i e h =
-      let p = is_pending_jump (look_of r) in
-      let s = addr_of ms (r.b - 1) in
-      let j = pick p (settle_by R s 2 1 k (look_of r) i) i in
+  pub pass_waiting : (w : Waiting) (ms : List Mark) (front back : List Rec) (k : ℕ) (i : Ideal)
+      → i.records ≡ front ++ back → k ≡ length front
+      → Pass i (resolve R w ms k (length back) i) (front ++ each (settle_to w ms) back) (All (Settles w ms) back)
+  unfolding resolve
+  pass_waiting w ms front [] k i e h = record { records = e; fresh = []; notes = sym (append-nil i.notes); entries = refl; ok = λ n. tt }
+  pass_waiting w ms front (r ∷ back) k i e h =
+      let p = is_pending w (look_of r) in
+      let s = w.find ms (r.b - 1) in
+      let j = pick p (settle_by R w s k (look_of r) i) i in
       let u = pick p (settle_rec s r) r in
-      let a = settle_pass p s 2 1 r front back k i e h in
-      let b = pass_labels ms (front ++ (u ∷ [])) back (k + 1) j a.records (omega (arith, h, length-append front (u ∷ []))) in
-      subst (λ (x : Rec). Pass i (resolve_labels R ms (k + 1) (length back) (settle_jump R ms k (look_of x) i)) (front ++ (u ∷ each (jump_to ms) back))
-      (All (λ (r : Rec). Finds (is_pending_jump (look_of r)) 1 (addr_of ms (r.b - 1))) (r ∷ back)))
-      (sym (found_here i.records front back r k e h)) (pass_list (append_assoc front (u ∷ []) (each (jump_to ms) back)) (pass_two a b))
-
-  pub pass_restores : (ms : List Mark) (front back : List Rec) (k : ℕ) (i : Ideal) → i.records ≡ front ++ back → k ≡ length front
-      → Pass i (resolve_datum_indices R ms k (length back) i) (front ++ each (restore_to ms) back) (All (λ (r : Rec). Finds (is_pending_restore (look_of r)) 2 (data_of ms (r.b - 1))) back)
-  unfolding resolve_datum_indices
-  pass_restores ms front [] k i e h = record { records = e; fresh = []; notes = sym (append-nil i.notes); entries = refl; ok = λ n. tt }
-  pass_restores ms front (r ∷ back) k i e h =
-      let p = is_pending_restore (look_of r) in
-      let s = data_of ms (r.b - 1) in
-      let j = pick p (settle_by R s 3 2 k (look_of r) i) i in
-      let u = pick p (settle_rec s r) r in
-      let a = settle_pass p s 3 2 r front back k i e h in
-      let b = pass_restores ms (front ++ (u ∷ [])) back (k + 1) j a.records (omega (arith, h, length-append front (u ∷ []))) in
-      subst (λ (x : Rec). Pass i (resolve_datum_indices R ms (k + 1) (length back) (settle_restore R ms k (look_of x) i)) (front ++ (u ∷ each (restore_to ms) back))
-      (All (λ (r : Rec). Finds (is_pending_restore (look_of r)) 2 (data_of ms (r.b - 1))) (r ∷ back)))
-      (sym (found_here i.records front back r k e h)) (pass_list (append_assoc front (u ∷ []) (each (restore_to ms) back)) (pass_two a b))
+      let a = settle_pass w p s r front back k i e h in
+      let b = pass_waiting w ms (front ++ (u ∷ [])) back (k + 1) j a.records (omega (arith, h, length-append front (u ∷ []))) in
+      subst (λ (x : Rec). Pass i (resolve R w ms (k + 1) (length back) (settle_waiting R w ms k (look_of x) i))
+      (front ++ (u ∷ each (settle_to w ms) back)) (All (Settles w ms) (r ∷ back)))
+      (sym (found_here i.records front back r k e h)) (pass_list (append_assoc front (u ∷ []) (each (settle_to w ms) back)) (pass_two a b))
 
 -- what is found is a mark's address
 pub found_mark : (X : ℕ → Type 0) (ms : List Mark) (l v : ℕ) → All (λ (m : Mark). X m.addr) ms → addr_of ms l ≡ found v → X v
@@ -179,10 +167,11 @@ module _ (E : List Entry) (X Y : ℕ → Type 0) where
         asked = λ z. record { fixed = record { fixed = rw q (x, tt); body = λ y. absurd (omega (arith, q)) }; settled = λ y. refl };
       }
 
-  label_alike : (ms : List Mark) (r : Rec) → All (λ (m : Mark). X m.addr) ms → Finds (is_pending_jump (look_of r)) 1 (addr_of ms (r.b - 1)) → Alike E (Fixed X Y) (Aimed X Y) r (jump_to ms r)
-  label_alike ms r a f = go (is_pending_jump (look_of r)) refl (addr_of ms (r.b - 1)) refl f
+  label_alike : (ms : List Mark) (r : Rec) → All (λ (m : Mark). X m.addr) ms → Settles jumps ms r
+      → Alike E (Fixed X Y) (Aimed X Y) r (settle_to jumps ms r)
+  label_alike ms r a f = go (is_pending jumps (look_of r)) refl (addr_of ms (r.b - 1)) refl f
     where
-      go : (p : Bool) → is_pending_jump (look_of r) ≡ p → (s : Search) → addr_of ms (r.b - 1) ≡ s → Finds p 1 s → Alike E (Fixed X Y) (Aimed X Y) r (pick p (settle_rec s r) r)
+      go : (p : Bool) → is_pending jumps (look_of r) ≡ p → (s : Search) → addr_of ms (r.b - 1) ≡ s → Finds p 1 s → Alike E (Fixed X Y) (Aimed X Y) r (pick p (settle_rec s r) r)
       go false p s q g = record {
         steps = λ P. refl;
         call = refl;
@@ -202,20 +191,20 @@ module _ (E : List Entry) (X Y : ℕ → Type 0) where
     asked = λ z. record { fixed = record { fixed = rw q tt; body = λ y. absurd (omega (arith, q)) }; settled = λ y. refl };
   }
 
-  restore_alike : (ms : List Mark) (r : Rec) → Alike E (Aimed X Y) (Aimed X Y) r (restore_to ms r)
-  restore_alike ms r = go (is_pending_restore (look_of r)) refl (data_of ms (r.b - 1))
+  restore_alike : (ms : List Mark) (r : Rec) → Alike E (Aimed X Y) (Aimed X Y) r (settle_to restores ms r)
+  restore_alike ms r = go (is_pending restores (look_of r)) refl (data_of ms (r.b - 1))
     where
-      go : (p : Bool) → is_pending_restore (look_of r) ≡ p → (s : Search) → Alike E (Aimed X Y) (Aimed X Y) r (pick p (settle_rec s r) r)
+      go : (p : Bool) → is_pending restores (look_of r) ≡ p → (s : Search) → Alike E (Aimed X Y) (Aimed X Y) r (pick p (settle_rec s r) r)
       go false p s = record { steps = λ P. refl; call = refl; count = λ z. refl; end = λ z. refl; asked = λ z. z }
       go true p (found v) = restore_call r v (eqb-true r.call 31 (both_right (ltb 0 r.b) (eqb r.call 31) p))
       go true p missing = restore_call r r.a (eqb-true r.call 31 (both_right (ltb 0 r.b) (eqb r.call 31) p))
 
-  pub label_zip : (ms : List Mark) (rs : List Rec) → All (λ (m : Mark). X m.addr) ms → All (λ (r : Rec). Finds (is_pending_jump (look_of r)) 1 (addr_of ms (r.b - 1))) rs
-      → Zip (Alike E (Fixed X Y) (Aimed X Y)) rs (each (jump_to ms) rs)
+  pub label_zip : (ms : List Mark) (rs : List Rec) → All (λ (m : Mark). X m.addr) ms → All (Settles jumps ms) rs
+      → Zip (Alike E (Fixed X Y) (Aimed X Y)) rs (each (settle_to jumps ms) rs)
   label_zip ms [] a f = Zip.none
   label_zip ms (r ∷ rs) a f = Zip.more (label_alike ms r a f.0) (label_zip ms rs a f.1)
 
-  pub restore_zip : (ms : List Mark) (rs : List Rec) → Zip (Alike E (Aimed X Y) (Aimed X Y)) rs (each (restore_to ms) rs)
+  pub restore_zip : (ms : List Mark) (rs : List Rec) → Zip (Alike E (Aimed X Y) (Aimed X Y)) rs (each (settle_to restores ms) rs)
   restore_zip ms [] = Zip.none
   restore_zip ms (r ∷ rs) = Zip.more (restore_alike ms r) (restore_zip ms rs)
 

@@ -197,7 +197,7 @@ module _ (E : List Entry) (few : Few E) (t : List ℕ) (base : ℕ) where
       let n = read_name t base r in
       let u = get_or t (text_place base r.end - 1) 0 in
       let j = pick (ltb 0 n.lost) (R.note i 10 r 2) i in
-      seq E {d₁ = 0} {d₂ = 1} {W₁ = Unit {0}} {W₂ = Unit {0}} {A = Nothing} (warn_code (ltb 0 n.lost) r i) (symbol_code E few t j n.start n.len n.sigil) (λ w. w) (λ w. w)
+      seq E {d₁ = 0} {d₂ = 1} {W₁ = Unit {0}} {W₂ = Unit {0}} {A = Nothing} (warn_code (ltb 0 n.lost) r i) (symbol_code E few t j n.name.start n.name.len n.name.sigil) (λ w. w) (λ w. w)
       (λ xs ys a b. record { none = rw (a, b.0); type = b.1 ∙ sigil_back u; proper = sigil_proper u })
 
   -- an expression of kind x

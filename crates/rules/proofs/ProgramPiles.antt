@@ -1,9 +1,9 @@
 -- The piles of a whole program: its lines, and closed up.
-use Rattle.std.proofs.Common.{◌≡◌, ℕ, suc, ◌+◌, ◌-◌, ◌/◌, ◌<◌, ◌≤◌, Bool, true, false, eqb, ltb, List, [], ◌∷◌, ◌++◌, length, get_or, sym, refl, ap, ◌∙◌, append-nil, arith, length-append, ltb-false, eqb-true}
+use Rattle.std.proofs.Common.{◌≡◌, ℕ, suc, ◌+◌, ◌/◌, ◌<◌, ◌≤◌, Bool, true, false, eqb, ltb, List, [], ◌∷◌, ◌++◌, length, get_or, sym, refl, ap, ◌∙◌, append-nil, arith, length-append, ltb-false, eqb-true}
 use Rattle.recorder.specs.Word.{pick}
 use Rattle.recorder.specs.Recorder.{Recorder}
-use Rattle.recorder.specs.Ideal.{Rec, no_rec, Entry, how_many, Ideal, ideal, look_of}
-use Rattle.recorder.specs.Marks.{Mark, mark, addr_of, data_of}
+use Rattle.recorder.specs.Ideal.{Rec, no_rec, Entry, how_many, Ideal, ideal}
+use Rattle.recorder.specs.Marks.{Mark, mark}
 use Rattle.recorder.specs.Closing.{rules_r, clean_up, close_whiles, open_notes, delays, end_rec, is_wend}
 use Rattle.recorder.proofs.Bools.{both_left}
 use Rattle.simulation.proofs.Clean.{close_length, delays_length}
@@ -14,7 +14,7 @@ use Rattle.sheet.proofs.Numbers.{refusal_some}
 use Rattle.sheet.specs.Check.{checked}
 use Rattle.sheet.specs.Tree.{Opt, absent, given, Target, ProgramLine, program_at}
 use Rattle.rules.specs.Stmt.{compile_stmts}
-use Rattle.rules.specs.Program.{is_pending_jump, is_pending_restore, Lines, marked, label_note, line_begun, compile_line, compile_lines, first_line, resolve_labels, resolve_datum_indices, close_up}
+use Rattle.rules.specs.Program.{jumps, restores, Lines, marked, label_note, line_begun, compile_line, compile_lines, first_line, resolve_labels, resolve_datum_indices, close_up}
 use Rattle.recorder.specs.Layout.{most_records}
 use Rattle.rules.specs.Outcome.{Lengths, refused, accepted, sized, outcome_by, outcome, compiled, finished}
 use Rattle.rules.specs.Missing.{All, Whole, WholeStmts}
@@ -27,7 +27,7 @@ use Rattle.rules.proofs.ExprPiles.{Few}
 use Rattle.rules.proofs.Blocks.{Empty, Body, Good, good_nil, first_empty}
 use Rattle.rules.proofs.BlockPiles.{FormedStmts, then_of, stmts_code}
 use Rattle.rules.proofs.Traces.{Fixed, Trace, Zip, Alike, flow_trace, trace_quiet, zip_trace, zip_pile, zip_ahead, zip_call}
-use Rattle.rules.proofs.ClosingPiles.{each, jump_to, restore_to, Finds, Pass, Aimed, Full, pass_labels, pass_restores, label_zip, restore_zip, while_zip}
+use Rattle.rules.proofs.ClosingPiles.{each, settle_to, Settles, Pass, Aimed, Full, pass_waiting, label_zip, restore_zip, while_zip}
 use Rattle.rules.proofs.DelayPiles.{Sound, delays_sound}
 use Rattle.rules.proofs.Assign.{finished_piles}
 
@@ -113,18 +113,18 @@ module _ (t : List ℕ) (c : Lines Ideal) where
   abbrev v : Ideal
   v = resolve_datum_indices (rules_r t) c.marks 0 (length u.records) u
 
-  pub first_pass : Pass c.state u (each (jump_to c.marks) C) (All (λ (r : Rec). Finds (is_pending_jump (look_of r)) 1 (addr_of c.marks (r.b - 1))) C)
-  first_pass = pass_labels t c.marks [] C 0 c.state refl refl
+  pub first_pass : Pass c.state u (each (settle_to jumps c.marks) C) (All (Settles jumps c.marks) C)
+  first_pass = pass_waiting t jumps c.marks [] C 0 c.state refl refl
 
-  second_pass : Pass u v (each (restore_to c.marks) u.records) (All (λ (r : Rec). Finds (is_pending_restore (look_of r)) 2 (data_of c.marks (r.b - 1))) u.records)
-  second_pass = pass_restores t c.marks [] u.records 0 u refl refl
+  second_pass : Pass u v (each (settle_to restores c.marks) u.records) (All (Settles restores c.marks) u.records)
+  second_pass = pass_waiting t restores c.marks [] u.records 0 u refl refl
 
   -- the finished list, by its passes
-  pub v_records : v.records ≡ each (restore_to c.marks) (each (jump_to c.marks) C)
-  v_records = second_pass.records ∙ ap (λ (z : List Rec). each (restore_to c.marks) z) first_pass.records
+  pub v_records : v.records ≡ each (settle_to restores c.marks) (each (settle_to jumps c.marks) C)
+  v_records = second_pass.records ∙ ap (λ (z : List Rec). each (settle_to restores c.marks) z) first_pass.records
 
   v_length : length v.records ≡ length C
-  v_length = ap length v_records ∙ each_length (restore_to c.marks) (each (jump_to c.marks) C) ∙ each_length (jump_to c.marks) C
+  v_length = ap length v_records ∙ each_length (settle_to restores c.marks) (each (settle_to jumps c.marks) C) ∙ each_length (settle_to jumps c.marks) C
 
   pub closed_length : length (close_up (rules_r t) c).records ≡ length C + 1
   unfolding close_up clean_up
@@ -165,11 +165,11 @@ module _ (t : List ℕ) (c : Lines Ideal) where
       W : List Rec
       W = close_whiles v.records 0
 
-      z₁ : Zip (Alike E (Fixed X Y) (Aimed X Y)) C (each (jump_to c.marks) C)
+      z₁ : Zip (Alike E (Fixed X Y) (Aimed X Y)) C (each (settle_to jumps c.marks) C)
       z₁ = label_zip E X Y c.marks C marks (first_pass.ok n₁)
 
-      z₂ : Zip (Alike E (Aimed X Y) (Aimed X Y)) (each (jump_to c.marks) C) v.records
-      z₂ = rw v_records (restore_zip E X Y c.marks (each (jump_to c.marks) C))
+      z₂ : Zip (Alike E (Aimed X Y) (Aimed X Y)) (each (settle_to jumps c.marks) C) v.records
+      z₂ = rw v_records (restore_zip E X Y c.marks (each (settle_to jumps c.marks) C))
 
       tr₂ : Trace E (Aimed X Y) v.records [] []
       tr₂ = zip_trace z₂ (zip_trace z₁ (flow_trace g.flow))

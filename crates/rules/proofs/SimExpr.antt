@@ -99,7 +99,7 @@ unit_sigil Real = refl
 unit_sigil String = refl
 unit_sigil Error = refl
 
-name_sigil : (t : List ℕ) (base : ℕ) (r : Range) → Sigil (read_name t base r).sigil
+name_sigil : (t : List ℕ) (base : ℕ) (r : Range) → Sigil (read_name t base r).name.sigil
 unfolding read_name
 name_sigil t base r = unit_sigil (sigil_type (get_or t (text_place base r.end - 1) 0))
 

@@ -1,7 +1,7 @@
 -- Compiling keeps a simulation, for any two recorders: lines, and closing up where all records fit.
 use Rattle.std.proofs.Common.{◌≡◌, ℕ, zero, suc, ◌+◌, ◌-◌, Bool, true, false, eqb, ltb, List, [], ◌∷◌, ◌++◌, refl, arith, eqb-true}
 use lib.Dec.{eqb-suc-zero}
-use Rattle.recorder.specs.Word.{pick, either}
+use Rattle.recorder.specs.Word.{pick}
 use Rattle.recorder.specs.Recorder.{Recorder, Look}
 use Rattle.recorder.specs.Ideal.{Search, missing, found}
 use Rattle.recorder.specs.Marks.{Mark, or_else, addr_of, datum_from, data_of}
@@ -11,7 +11,8 @@ use Rattle.simulation.proofs.Hide.{twice}
 use Rattle.simulation.proofs.Simulation.{Simulation, Looks}
 use Rattle.sheet.specs.Tree.{Opt, absent, given, Stmts, Target, ProgramLine}
 use Rattle.rules.specs.Stmt.{compile_stmts}
-use Rattle.rules.specs.Program.{Lines, marked, is_pending_jump, is_pending_restore, label_note, line_begun, line_done, compile_line, compile_lines, first_line, settle_by, settle_jump, settle_restore, resolve_labels, resolve_datum_indices, close_up}
+use Rattle.rules.specs.Program.{Lines, marked, Waiting, jumps, restores, is_pending, label_note, line_begun, line_done, compile_line, compile_lines, first_line, settle_by, settle_waiting, resolve, resolve_labels, resolve_datum_indices, close_up}
+use Rattle.rules.proofs.Waits.{Waits, jumps_wait, restores_wait, of_waiting}
 use Rattle.rules.proofs.SimExpr.{Goes, begin, start, over, noted, pick_goes, place_then}
 use Rattle.rules.proofs.SimStmt.{sim_stmts}
 
@@ -37,34 +38,14 @@ before zero = zero
 before (suc n) = n
 
 -- what resolution reads is the same on both sides: the calls with two numbers are not among those that wait
-one_or_other : (P : ℕ → Type 0) (k l c : ℕ) → P k → P l → either (eqb c k) (eqb c l) ≡ true → P c
-one_or_other P k l c p q e = go (eqb c k) refl
+waiting_label : {w : Waiting} (h : Waits w) (x y : Look) → Looks x y → w.waits x.call ≡ true → x.b ≡ y.b
+waiting_label h x y l e = l.b (of_waiting (λ (c : ℕ). twice c ≡ false) refl refl refl h x.call e)
+
+pending_alike : {w : Waiting} (h : Waits w) (x y : Look) → Looks x y → is_pending w x ≡ is_pending w y
+pending_alike {w} h x y l = go (w.waits x.call) refl
   where
-    go : (i : Bool) → eqb c k ≡ i → P c
-    go true h = rw (eqb-true c k h) p
-    go false h = let f : eqb c l ≡ true = rw h at e in rw (eqb-true c l f) q
-
-abbrev is_jump : ℕ → Bool
-is_jump c = either (eqb c 20) (eqb c 21)
-
-jump_label : (x y : Look) → Looks x y → is_jump x.call ≡ true → x.b ≡ y.b
-jump_label x y l e = l.b (one_or_other (λ (c : ℕ). twice c ≡ false) 20 21 x.call refl refl e)
-
-jump_pending : (x y : Look) → Looks x y → is_pending_jump x ≡ is_pending_jump y
-jump_pending x y l = go (is_jump x.call) refl
-  where
-    go : (i : Bool) → is_jump x.call ≡ i → is_pending_jump x ≡ is_pending_jump y
-    go true e = rw (jump_label x y l e, l.call)
-    go false e = rw (← l.call, e, both_false (ltb 0 x.b), both_false (ltb 0 y.b))
-
-restore_label : (x y : Look) → Looks x y → eqb x.call 31 ≡ true → x.b ≡ y.b
-restore_label x y l e = l.b (rw (eqb-true x.call 31 e))
-
-restore_pending : (x y : Look) → Looks x y → is_pending_restore x ≡ is_pending_restore y
-restore_pending x y l = go (eqb x.call 31) refl
-  where
-    go : (i : Bool) → eqb x.call 31 ≡ i → is_pending_restore x ≡ is_pending_restore y
-    go true e = rw (restore_label x y l e, l.call)
+    go : (i : Bool) → w.waits x.call ≡ i → is_pending w x ≡ is_pending w y
+    go true e = rw (waiting_label h x y l e, l.call)
     go false e = rw (← l.call, e, both_false (ltb 0 x.b), both_false (ltb 0 y.b))
 
 -- all of closing up but clean_up
@@ -179,15 +160,15 @@ module _ {S T : Type 0} {R : Recorder S} {Q : Recorder T} (σ : Simulation R Q) 
   pick_stays true false e f g = absurd (let z : ◌≡◌ {A = ℕ} 0 1 = cc in omega arith)
   pick_stays false true e f g = absurd (let z : ◌≡◌ {A = ℕ} 0 1 = cc in omega arith)
 
-  sim_settle_by : {w u : T} {s : S} {P : ℕ → ℕ → Type 0} {a b : Search} (class severity k : ℕ) → eqb (R.look s k).call 25 ≡ false
+  sim_settle_by : {w u : T} {s : S} {P : ℕ → ℕ → Type 0} {a b : Search} (x : Waiting) (k : ℕ) → eqb (R.look s k).call 25 ≡ false
       → ((x y : ℕ) → P x y → σ.Sim (R.settle s k x) (Q.settle u k y)) → Alike P a b → Stays w s u
-      → Stays w (settle_by R a class severity k (R.look s k) s) (settle_by Q b class severity k (Q.look u k) u)
-  sim_settle_by class severity k c f (each p) g = record {
+      → Stays w (settle_by R x a k (R.look s k) s) (settle_by Q x b k (Q.look u k) u)
+  sim_settle_by x k c f (each p) g = record {
     goes = record { sim = f _ _ p; later = σ.later_trans _ _ _ g.goes.later (σ.settle_later _ _ _) };
     fits = σ.settle_fits _ _ _ g.fits;
     room = λ r. σ.settle_room _ _ _ (g.room r);
   }
-  sim_settle_by {u = u} {s = s} class severity k c f no_one g =
+  sim_settle_by {u = u} {s = s} x k c f no_one g =
       let l = σ.look s u k g.goes.sim g.fits in
       rw l.c record {
         goes = record {
@@ -198,47 +179,50 @@ module _ {S T : Type 0} {R : Recorder S} {Q : Recorder T} (σ : Simulation R Q) 
         room = λ r. σ.note_at_room _ _ _ _ _ (σ.drop_label_room _ _ (g.room r));
       }
 
-  sim_settle_jump : {w u : T} {s : S} {ms ns : List Mark} (k : ℕ) → MarksGo w ms ns → Stays w s u
-      → Stays w (settle_jump R ms k (R.look s k) s) (settle_jump Q ns k (Q.look u k) u)
-  sim_settle_jump {w} {u} {s} {ms} {ns} k m g = pick_stays _ _ (jump_pending _ _ l) go g
-    where
-      l : Looks (R.look s k) (Q.look u k)
-      l = σ.look s u k g.goes.sim g.fits
+  -- what both sides find settles what waits for it
+  record Settling (w : Waiting) (P : T → ℕ → ℕ → Type 0) : Type 0 where
+    calls : Waits w
+    finds : {u : T} {ms ns : List Mark} (l : ℕ) → MarksGo u ms ns → Alike (P u) (w.find ms l) (w.find ns l)
+    settles : (s : S) (u : T) (k x y : ℕ) → w.waits (R.look s k).call ≡ true → σ.Sim s u → P u x y → σ.Sim (R.settle s k x) (Q.settle u k y)
 
-      go : is_pending_jump (R.look s k) ≡ true → Stays w (settle_by R (addr_of ms ((R.look s k).b - 1)) 2 1 k (R.look s k) s) (settle_by Q (addr_of ns ((Q.look u k).b - 1)) 2 1 k (Q.look u k) u)
-      go e =
-          let j = both_right (ltb 0 (R.look s k).b) (is_jump (R.look s k).call) e in
-          let c = one_or_other (λ (i : ℕ). eqb i 25 ≡ false) 20 21 (R.look s k).call refl refl j in
-          let a : Alike (σ.Place u) (addr_of ms ((R.look s k).b - 1)) (addr_of ns ((Q.look u k).b - 1)) =
-          rw (jump_label _ _ l j) (sim_addr ((Q.look u k).b - 1) (marks_later g.goes.later m)) in
-          sim_settle_by 2 1 k c (λ x y p. σ.settle _ _ _ _ _ c g.goes.sim p) a g
+  no_while : {w : Waiting} → Waits w → (c : ℕ) → w.waits c ≡ true → eqb c 25 ≡ false
+  no_while h c e = of_waiting (λ (i : ℕ). eqb i 25 ≡ false) refl refl refl h c e
 
-  sim_settle_restore : {w u : T} {s : S} {ms ns : List Mark} (k : ℕ) → MarksGo w ms ns → Stays w s u
-      → Stays w (settle_restore R ms k (R.look s k) s) (settle_restore Q ns k (Q.look u k) u)
-  sim_settle_restore {w} {u} {s} {ms} {ns} k m g = pick_stays _ _ (restore_pending _ _ l) go g
-    where
-      l : Looks (R.look s k) (Q.look u k)
-      l = σ.look s u k g.goes.sim g.fits
+  jumps_settling : Settling jumps σ.Place
+  jumps_settling = record {
+    calls = jumps_wait;
+    finds = λ l m. sim_addr l m;
+    settles = λ s u k x y e m p. σ.settle s u k x y (no_while jumps_wait _ e) m p;
+  }
 
-      go : is_pending_restore (R.look s k) ≡ true → Stays w (settle_by R (data_of ms ((R.look s k).b - 1)) 3 2 k (R.look s k) s) (settle_by Q (data_of ns ((Q.look u k).b - 1)) 3 2 k (Q.look u k) u)
-      go e =
-          let j = both_right (ltb 0 (R.look s k).b) (eqb (R.look s k).call 31) e in
-          let i = eqb-true (R.look s k).call 31 j in
-          let c : eqb (R.look s k).call 25 ≡ false = rw i in
-          let a : Alike (σ.Number u) (data_of ms ((R.look s k).b - 1)) (data_of ns ((Q.look u k).b - 1)) =
-          rw (restore_label _ _ l j) (sim_data_of ((Q.look u k).b - 1) (marks_later g.goes.later m)) in
-          sim_settle_by 3 2 k c (λ x y p. σ.settle_number _ _ _ _ _ i g.goes.sim p) a g
+  restores_settling : Settling restores σ.Number
+  restores_settling = record {
+    calls = restores_wait;
+    finds = λ l m. sim_data_of l m;
+    settles = λ s u k x y e m p. σ.settle_number s u k x y (eqb-true _ 31 e) m p;
+  }
 
-  pub sim_labels : (k n : ℕ) {w u : T} {s : S} {ms ns : List Mark} → MarksGo w ms ns → Stays w s u → Stays w (resolve_labels R ms k n s) (resolve_labels Q ns k n u)
-  unfolding resolve_labels
-  sim_labels k zero m g = g
-  sim_labels k (suc n) m g = sim_labels (k + 1) n m (sim_settle_jump k m g)
+  module _ {w : Waiting} {P : T → ℕ → ℕ → Type 0} (h : Settling w P) where
+    sim_settle : {v u : T} {s : S} {ms ns : List Mark} (k : ℕ) → MarksGo v ms ns → Stays v s u
+        → Stays v (settle_waiting R w ms k (R.look s k) s) (settle_waiting Q w ns k (Q.look u k) u)
+    sim_settle {v} {u} {s} {ms} {ns} k m g = pick_stays _ _ (pending_alike h.calls _ _ l) go g
+      where
+        l : Looks (R.look s k) (Q.look u k)
+        l = σ.look s u k g.goes.sim g.fits
 
-  pub sim_indices : (k n : ℕ) {w u : T} {s : S} {ms ns : List Mark} → MarksGo w ms ns → Stays w s u
-      → Stays w (resolve_datum_indices R ms k n s) (resolve_datum_indices Q ns k n u)
-  unfolding resolve_datum_indices
-  sim_indices k zero m g = g
-  sim_indices k (suc n) m g = sim_indices (k + 1) n m (sim_settle_restore k m g)
+        go : is_pending w (R.look s k) ≡ true
+            → Stays v (settle_by R w (w.find ms ((R.look s k).b - 1)) k (R.look s k) s) (settle_by Q w (w.find ns ((Q.look u k).b - 1)) k (Q.look u k) u)
+        go e =
+            let j = both_right (ltb 0 (R.look s k).b) (w.waits (R.look s k).call) e in
+            let a : Alike (P u) (w.find ms ((R.look s k).b - 1)) (w.find ns ((Q.look u k).b - 1)) =
+            rw (waiting_label h.calls _ _ l j) (h.finds ((Q.look u k).b - 1) (marks_later g.goes.later m)) in
+            sim_settle_by w k (no_while h.calls _ j) (λ x y p. h.settles _ _ _ _ _ j g.goes.sim p) a g
+
+    sim_resolve : (k n : ℕ) {v u : T} {s : S} {ms ns : List Mark} → MarksGo v ms ns → Stays v s u
+        → Stays v (resolve R w ms k n s) (resolve Q w ns k n u)
+    unfolding resolve
+    sim_resolve k zero m g = g
+    sim_resolve k (suc n) m g = sim_resolve (k + 1) n m (sim_settle k m g)
 
   counts : {w u : T} {s : S} → Stays w s u → R.count s ≡ Q.count u
   counts g = σ.place_is _ _ _ g.fits (σ.count _ _ g.goes.sim)
@@ -247,8 +231,8 @@ module _ {S T : Type 0} {R : Recorder S} {Q : Recorder T} (σ : Simulation R Q) 
   sim_resolved {c = c} {d = d} g f =
       let a : Stays d.state c.state d.state = record { goes = start g.goes; fits = f; room = λ r. r } in
       let b : Stays d.state (resolve_labels R c.marks 0 (R.count c.state) c.state) (resolve_labels Q d.marks 0 (Q.count d.state) d.state) =
-      rw (counts a) (sim_labels 0 (Q.count d.state) g.marks a) in
-      rw (counts b) (sim_indices 0 _ g.marks b)
+      rw (counts a) (sim_resolve jumps_settling 0 (Q.count d.state) g.marks a) in
+      rw (counts b) (sim_resolve restores_settling 0 _ g.marks b)
 
   -- the whole, where End fits too
   pub sim_close : {w : T} {c : Lines S} {d : Lines T} → GoesLines w c d → σ.Room d.state → σ.Done (close_up R c) (close_up Q d)

@@ -1,17 +1,17 @@
 -- Lists of records and their calls 44 and 45: what changes them, and that closing up does not.
 use Rattle.std.proofs.Common.{◌≡◌, ℕ, zero, suc, ◌+◌, ◌-◌, ◌<◌, ◌≤◌, Bool, true, false, eqb, ltb, ◌⊎◌, List, [], ◌∷◌, ◌++◌, length, sym, refl, ap, ◌∙◌, inl, inr, append-nil, arith, length-append, eqb-true}
 use lib.Seq.{get_or-append_seam}
-use Rattle.recorder.specs.Word.{pick, either, both}
+use Rattle.recorder.specs.Word.{pick, both}
 use Rattle.recorder.specs.Ideal.{Rec, rec, no_rec, Ideal, change, with_a, look_of, Search, missing, found}
-use Rattle.recorder.specs.Marks.{addr_of, data_of}
+use Rattle.recorder.specs.Marks.{Mark}
 use Rattle.recorder.specs.Closing.{rules_r, is_while, end_from, end_at, close_whiles, rec_at, is_start, is_end, is_one, is_for, is_next_of, is_delay, is_stepped_delay, no_op, sleep, round_up, whole_end, delayed, stepped_delayed, delay_from, delays, end_rec, clean_up}
 use Rattle.recorder.proofs.Words.{change_length}
 use Rattle.recorder.proofs.Bools.{both_left, both_right}
-use Rattle.rules.specs.Program.{Lines, is_pending_jump, is_pending_restore, resolve_labels, resolve_datum_indices, close_up}
+use Rattle.rules.specs.Program.{Lines, Waiting, jumps, restores, is_pending, resolve_labels, resolve_datum_indices, close_up}
 use Rattle.rules.specs.Missing.{WriteCall, write_call}
 use Rattle.rules.specs.Writes.{is_write_call, write_calls, records_from}
-use Rattle.rules.proofs.BoolLaws.{either_of}
-use Rattle.rules.proofs.ClosingPiles.{each, settle_rec, jump_to, restore_to}
+use Rattle.rules.proofs.Waits.{Waits, jumps_wait, restores_wait, of_waiting}
+use Rattle.rules.proofs.ClosingPiles.{each, settle_rec, settle_to}
 use Rattle.rules.proofs.DelayPiles.{start_call, one_call, end_call, for_call, next_call}
 use Rattle.rules.proofs.ProgramPiles.{v_records}
 
@@ -161,19 +161,14 @@ waiting_same : (w : Bool) (r u : Rec) → u.call ≡ r.call → (w ≡ true → 
 waiting_same true r u e h = silent_same r u (h refl) (rw e (h refl))
 waiting_same false r u e h = refl
 
-jump_silent : (r : Rec) → is_pending_jump (look_of r) ≡ true → Silent r
-jump_silent r e = go (either_of (eqb r.call 20) (eqb r.call 21) (both_right (ltb 0 r.b) (either (eqb r.call 20) (eqb r.call 21)) e))
-  where
-    go : (eqb r.call 20 ≡ true) ⊎ (eqb r.call 21 ≡ true) → Silent r
-    go (inl q) = silent_call r 20 refl (eqb-true r.call 20 q)
-    go (inr q) = silent_call r 21 refl (eqb-true r.call 21 q)
-
-restore_silent : (r : Rec) → is_pending_restore (look_of r) ≡ true → Silent r
-restore_silent r e = silent_call r 31 refl (eqb-true r.call 31 (both_right (ltb 0 r.b) (eqb r.call 31) e))
-
 settled_call : (o : Search) (r : Rec) → (settle_rec o r).call ≡ r.call
 settled_call (found v) r = refl
 settled_call missing r = refl
+
+settled_same : (w : Waiting) (ms : List Mark) → Waits w → (rs : List Rec) → Same rs (each (settle_to w ms) rs)
+settled_same w ms h rs =
+    same_each (settle_to w ms) (λ r. waiting_same (is_pending w (look_of r)) r (settle_rec (w.find ms (r.b - 1)) r) (settled_call (w.find ms (r.b - 1)) r)
+    (λ e. of_waiting (λ (c : ℕ). is_write_call c ≡ false) refl refl refl h r.call (both_right (ltb 0 r.b) (w.waits r.call) e))) rs
 
 end_call_same : (o : Search) (r : Rec) → (end_at o r).call ≡ r.call
 end_call_same (found v) r = refl
@@ -277,9 +272,9 @@ closed t c =
     let C = c.state.records in
     let u = resolve_labels (rules_r t) c.marks 0 (length C) c.state in
     let v = resolve_datum_indices (rules_r t) c.marks 0 (length u.records) u in
-    let jumps = same_each (jump_to c.marks) (λ r. waiting_same (is_pending_jump (look_of r)) r (settle_rec (addr_of c.marks (r.b - 1)) r) (settled_call (addr_of c.marks (r.b - 1)) r) (jump_silent r)) C in
-    let restores = same_each (restore_to c.marks) (λ r. waiting_same (is_pending_restore (look_of r)) r (settle_rec (data_of c.marks (r.b - 1)) r) (settled_call (data_of c.marks (r.b - 1)) r) (restore_silent r)) (each (jump_to c.marks) C) in
-    let resolved : Same C v.records = rw (v_records t c) (same_then jumps restores) in
+    let jumped = settled_same jumps c.marks jumps_wait C in
+    let restored = settled_same restores c.marks restores_wait (each (settle_to jumps c.marks) C) in
+    let resolved : Same C v.records = rw (v_records t c) (same_then jumped restored) in
     record {
       list = delays (length v.records) 0 (close_whiles v.records 0);
       line = v.line;

@@ -74,7 +74,7 @@ module _ {S : Type 0} (R : Recorder S) (t : List ℕ) (base : ℕ) where
   blank_note lost r s = pick (nat_lt 0 lost) (add_warning 10 r s) s
 
   abbrev pub named_sym : Name → Range → S → Sym S
-  named_sym n r s = sym_of n.ty (R.symbol (blank_note n.lost r s) n.start n.len n.sigil)
+  named_sym n r s = sym_of n.ty (R.symbol (blank_note n.lost r s) n.name.start n.name.len n.name.sigil)
 
   unfoldable pub compile_sym : Range → S → Sym S
   compile_sym r s = named_sym (read_name t base r) r s

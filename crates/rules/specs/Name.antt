@@ -2,6 +2,7 @@
 use Rattle.std.specs.Prelude.{ℕ, zero, suc, ◌+◌, ◌-◌, ◌%◌, Bool, List, ◌==◌, nat_lt, slice_index}
 use Rattle.recorder.specs.Word.{pick, either, next}
 use Rattle.recorder.specs.declared.word.Range.{Range}
+use Rattle.recorder.specs.declared.codegen.Name.{Name as Units}
 use Rattle.rules.specs.declared.types.«Type».{«Type» as Ty}
 use Rattle.rules.specs.declared.name.Name.{Name}
 use Rattle.rules.specs.Types.{sigil_unit, sigil_type}
@@ -24,11 +25,12 @@ sigil_count u = pick (nat_lt 0 u) 1 0
 
 -- A name is cut at its first blank, its kind is told by its last unit, and its sigil is kept; what is left out stands from the
 -- first blank up to the sigil or the end. The line's units begin at `base`.
+abbrev pub units_of : List ℕ → ℕ → ℕ → Ty → Units
+units_of t at n ty = record { start = at; len = name_length t at n; sigil = sigil_unit ty }
+
 abbrev pub name_of : List ℕ → ℕ → ℕ → Ty → Name
 name_of t at n ty = record {
-  start = at;
-  len = name_length t at n;
-  sigil = sigil_unit ty;
+  name = units_of t at n ty;
   ty = ty;
   lost = n - name_length t at n - sigil_count (sigil_unit ty);
 }

@@ -26,12 +26,25 @@ abbrev pub marked : Opt Target → ℕ → ℕ → List Mark → List Mark
 marked absent addr first ms = ms
 marked (given l) addr first ms = ms ++ (mark l.label addr first ∷ [])
 
--- "After the lines: jumps in order of pending, then RESTOREs". A pending record keeps its label plus 1 in b.
-abbrev pub is_pending_jump : Look → Bool
-is_pending_jump q = both (nat_lt 0 q.b) (either (q.call == 20) (q.call == 21))
+-- "After the lines: jumps in order of pending, then RESTOREs": which calls wait, what they get for a label, and class and severity of
+-- the note on a label that is nowhere
+pub record Waiting : Type 0 where
+  pub waits : ℕ → Bool
+  pub find : List Mark → ℕ → Search
+  pub class : ℕ
+  pub severity : ℕ
 
-abbrev pub is_pending_restore : Look → Bool
-is_pending_restore q = both (nat_lt 0 q.b) (q.call == 31)
+-- a jump waits for its line's address: "2 target missing"
+abbrev pub jumps : Waiting
+jumps = record { waits = λ call. either (call == 20) (call == 21); find = addr_of; class = 2; severity = 1 }
+
+-- a RESTORE waits for its DATA index: "3 RESTORE target missing (warning)"
+abbrev pub restores : Waiting
+restores = record { waits = λ call. call == 31; find = data_of; class = 3; severity = 2 }
+
+-- A pending record keeps its label plus 1 in b.
+abbrev pub is_pending : Waiting → Look → Bool
+is_pending w q = both (nat_lt 0 q.b) (w.waits q.call)
 
 module _ {S : Type 0} (R : Recorder S) (t : List ℕ) where
   -- "1 labels not rising": compared with the last label, a bad one too
@@ -63,25 +76,24 @@ module _ {S : Type 0} (R : Recorder S) (t : List ℕ) where
   first_line s = record { state = s; marks = []; last = 0; base = 0; line = 0 }
 
 module _ {S : Type 0} (R : Recorder S) where
-  -- found: the record gets it; missing: "2 target missing", or "3 RESTORE target missing (warning)"
-  abbrev pub settle_by : Search → ℕ → ℕ → ℕ → Look → S → S
-  settle_by (found v) class severity k q s = R.settle s k v
-  settle_by missing class severity k q s = R.note_at (R.drop_label s k) q.line class (unpack q.c) severity
+  -- found: the record gets it; missing: it waits no more, and its own line gets the note
+  abbrev pub settle_by : Waiting → Search → ℕ → Look → S → S
+  settle_by w (found v) k q s = R.settle s k v
+  settle_by w missing k q s = R.note_at (R.drop_label s k) q.line w.class (unpack q.c) w.severity
 
-  abbrev pub settle_jump : List Mark → ℕ → Look → S → S
-  settle_jump ms k q s = pick (is_pending_jump q) (settle_by (addr_of ms (q.b - 1)) 2 1 k q s) s
-
-  abbrev pub settle_restore : List Mark → ℕ → Look → S → S
-  settle_restore ms k q s = pick (is_pending_restore q) (settle_by (data_of ms (q.b - 1)) 3 2 k q s) s
+  abbrev pub settle_waiting : Waiting → List Mark → ℕ → Look → S → S
+  settle_waiting w ms k q s = pick (is_pending w q) (settle_by w (w.find ms (q.b - 1)) k q s) s
 
   -- the n records from the address k on
-  unfoldable pub resolve_labels : List Mark → ℕ → ℕ → S → S
-  resolve_labels ms k zero s = s
-  resolve_labels ms k (suc n) s = resolve_labels ms (k + 1) n (settle_jump ms k (R.look s k) s)
+  unfoldable pub resolve : Waiting → List Mark → ℕ → ℕ → S → S
+  resolve w ms k zero s = s
+  resolve w ms k (suc n) s = resolve w ms (k + 1) n (settle_waiting w ms k (R.look s k) s)
 
-  unfoldable pub resolve_datum_indices : List Mark → ℕ → ℕ → S → S
-  resolve_datum_indices ms k zero s = s
-  resolve_datum_indices ms k (suc n) s = resolve_datum_indices ms (k + 1) n (settle_restore ms k (R.look s k) s)
+  abbrev pub resolve_labels : List Mark → ℕ → ℕ → S → S
+  resolve_labels = resolve jumps
+
+  abbrev pub resolve_datum_indices : List Mark → ℕ → ℕ → S → S
+  resolve_datum_indices = resolve restores
 
   -- "Closing up": jumps, RESTOREs, then WHILEs, delays and End
   unfoldable pub close_up : Lines S → S

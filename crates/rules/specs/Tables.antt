@@ -7,7 +7,7 @@ use Rattle.rules.specs.declared.tables.Sig.{Sig}
 use Rattle.rules.specs.declared.tables.Sig.TheVariants.{RealOfReal, RealOfText, TextOfReal, TextPart, Mid, Point}
 use Rattle.rules.specs.declared.tables.Arity.{Arity}
 use Rattle.rules.specs.declared.tables.Wants.{Wants}
-use Rattle.rules.specs.declared.tables.Wants.TheVariants.{Func, Every, Draw}
+use Rattle.rules.specs.declared.tables.Wants.TheVariants.{Func, Every, Draw, Operands}
 
 -- a function's signature: how many arguments at least, their kinds, and the kind of its value
 pub record Signature : Type 0 where
@@ -107,7 +107,7 @@ drawn k i = pick (nat_lt i (draw_arity k).max) Real Error
 unfoldable pub operand : ℕ → ℕ → Ty
 operand k i = pick (k == 44) String (pick (k == 70) String (pick (both (k == 66) (i == 1)) String Real))
 
--- the code's names for the six signatures, and for the three ways in which a list of arguments is checked
+-- the code's names for the six signatures, and for the four ways in which a list of arguments is checked
 abbrev pub signature_for : Sig → Signature
 signature_for RealOfReal = real_of_real
 signature_for RealOfText = real_of_text
@@ -120,3 +120,4 @@ abbrev pub wanted_by : Wants → ℕ → Ty
 wanted_by (Func k) = wanted (signature_of k).args
 wanted_by Every = every_real
 wanted_by (Draw k) = drawn k
+wanted_by (Operands k) = operand k

@@ -3,16 +3,15 @@ ghost use Rattle.std.specs.Prelude.{◌≡◌, ◌-◌};
 ghost use Rattle.rules.specs.Name.{text_place, ends_name, name_length, sigil_count, read_name};
 
 use crate::types::Type;
+use recorder::codegen;
 use recorder::unit::{BLANK, DOLLAR, PERCENT};
 use recorder::word::Range;
 
-// Where a name starts in the text, how many units it has before a blank or its sigil, the sigil's unit or 0, its kind,
-// and how many units are lost: those from the first blank up to the sigil or the end.
+// A name as the recorder takes it, its units counted up to a blank or its sigil; its kind; and how many units are lost: those from the
+// first blank up to the sigil or the end.
 #[derive(Clone, Copy)]
 pub struct Name {
-    pub start: u32,
-    pub len: u32,
-    pub sigil: u32,
+    pub name: codegen::Name,
     pub ty: Type,
     pub lost: u32,
 }
@@ -67,9 +66,7 @@ pub fn read_name(text: &[u16], base: u32, r: Range) -> Name
     let sigil = ty.sigil();
     let len = name_length(text, start as usize, n);
     Name {
-        start,
-        len,
-        sigil,
+        name: codegen::Name { start, len, sigil },
         ty,
         lost: n.saturating_sub(len).saturating_sub(sigil_count(sigil)),
     }

@@ -1,10 +1,12 @@
 // What the statements and functions want: the tables of compile_stmt and compile_sys_func_call of compiler.rs.
-ghost use Rattle.std.specs.Prelude.{◌≡◌, length, map};
-ghost use Rattle.rules.specs.Tables.{signatures, signature_for, signature_of, wanted, draw_arity, operand, wanted_by};
+ghost use Rattle.std.specs.Prelude.{◌≡◌, ◌==◌, length, map};
+ghost use Rattle.recorder.specs.Word.{either};
+ghost use Rattle.rules.specs.Tables.{signatures, signature_for, signature_of, wanted, tab, spc, draw_arity, operand, wanted_by};
 
 use crate::types::Type;
 
-// Places in StmtKind: the drawing statements, and those whose operands are no numbers.
+// Places in StmtKind: the drawing statements, and those whose operands are no numbers. Statements, functions and operators have a name
+// where one is looked for: an enum of 72 statements would need as many arms to be read.
 const BOX: u32 = 2;
 
 const CIRCLE: u32 = 4;
@@ -22,7 +24,7 @@ const FPUTC: u32 = 66;
 const DEBUG_PRINT: u32 = 70;
 
 // Places in SysFuncKind.
-pub const TAB: u32 = 27;
+const TAB: u32 = 27;
 
 pub const SPC: u32 = 28;
 
@@ -47,15 +49,17 @@ pub struct Arity {
     pub max: u32,
 }
 
-// Which kinds the arguments of a list are to have: a function's, numbers however many, or a draw statement's.
+// Which kinds the arguments of a list are to have: a function's, numbers however many, a draw statement's, or those of a statement's
+// operands. An enum and no closure: compile_args is in a cycle of calls, and its clause says by cases which kind is wanted.
 #[derive(Clone, Copy)]
 pub enum Wants {
     Func(u32),
     Every,
     Draw(u32),
+    Operands(u32),
 }
 
-// By the place in SysFuncKind, eight on a line.
+// By the place in SysFuncKind, eight below each comment.
 const SIGS: &[Sig] = &[
     // Abs, Asc, Atn, Chr, Cos, Cvi, Cvs, Eof
     Sig::RealOfReal,
@@ -182,6 +186,13 @@ pub fn operand_type(k: u32, i: u32) -> Type
     }
 }
 
+// TAB and SPC, which stand in PRINT alone.
+pub fn is_tab_or_spc(k: u32) -> bool
+    ensures { result ≡ either (k == tab) (k == spc) }
+{
+    matches!(k, TAB | SPC)
+}
+
 impl Wants {
     // The kind that the i-th argument of a list is to have.
     pub fn want(self, i: u32) -> Type
@@ -197,6 +208,7 @@ impl Wants {
                     Type::Error
                 }
             }
+            Wants::Operands(k) => operand_type(k, i),
         }
     }
 }

@@ -43,13 +43,13 @@ impl Type {
         self == want
     }
 
-    // The unit that a name of the kind ends in, or 0.
+    // The unit that a name of the kind ends in, or 0: document 01's word for a sigil, which goes on into the name's entry.
     pub fn sigil(self) -> u32
         ensures { result ≡ sigil_unit self }
     {
         match self {
-            Type::Integer => PERCENT as u32,
-            Type::String => DOLLAR as u32,
+            Type::Integer => u32::from(PERCENT),
+            Type::String => u32::from(DOLLAR),
             Type::Real | Type::Error => 0,
         }
     }

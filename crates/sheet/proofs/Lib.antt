@@ -2,3 +2,4 @@ pub mod Walks
 pub mod Shapes
 pub mod Numbers
 pub mod Cases
+pub mod Names

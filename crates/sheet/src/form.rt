@@ -25,7 +25,8 @@ pub enum Kind {
     Expr = 33,
 }
 
-// The cases of an expression, in the order of their numbers.
+// The cases of an expression, in the order of their numbers. Functions take a case by its number, which their clauses name, and read it
+// by `of`; may_stand has to, since `of` takes what is no case for Error.
 #[derive(Clone, Copy, PartialEq, Eq)]
 pub enum ExprKind {
     Ident,
@@ -67,7 +68,7 @@ pub enum Sort {
 
 // What a field may hold: nothing, a word of a kind with a payload below a number, a range, a name's range, absent or a
 // name's range, a range with a unit, a statement or an expression, a number's value, absent or a label, INPUT's source,
-// PRINT's element, a datum.
+// PRINT's element, a datum. Nothing takes no word, so a field of one item needs no case of its own; an Option would bring one.
 #[derive(Clone, Copy, PartialEq, Eq)]
 pub enum Item {
     Nothing,
@@ -163,7 +164,8 @@ pub enum Shape {
     Write,
 }
 
-// Where a line's units lie in the text: they begin at base, and are so many.
+// Where a line's units lie in the text: they begin at base, and are so many. No slice: the definitions of the form read the whole text,
+// by the line's places in it.
 #[derive(Clone, Copy, PartialEq, Eq)]
 pub struct Line {
     pub base: usize,
@@ -329,6 +331,10 @@ const VALUES: Field = Field {
     second: Item::Word(Kind::Flag, 2),
 };
 
+// FSEEK's place in StmtKind, the only one asked for by name in the form: an enum of 72 cases for it would be no plainer.
+const FSEEK: u32 = 69;
+
+// The three readings are named of and are no From: what is no case is taken for the last one, which from would hide.
 impl ExprKind {
     // The case of a number; what is no case is Error.
     #[inline(always)]
@@ -428,7 +434,7 @@ pub fn shape_fields(s: Shape) -> &'static [Field]
     }
 }
 
-// The kind of the first word of what may stand at a place. Three sorts have one kind, so it is no conversion back and forth.
+// The kind of the first word of what may stand at a place; no From, since Kind::from(c) would not say of which word.
 pub fn node_kind(c: Sort) -> Kind
     ensures { kind_number result ≡ node_kind c }
 {
@@ -438,7 +444,7 @@ pub fn node_kind(c: Sort) -> Kind
     }
 }
 
-// Which cases may stand at a place.
+// Which cases may stand at a place. c is what the place takes and k what the sheet has there, so no struct holds both.
 #[tactic(auto, using(crate::proofs::Cases::place_rule, crate::proofs::Cases::input_rule))]
 pub fn may_stand(c: Sort, k: u32) -> bool
     ensures { result ≡ may_stand c k }
@@ -479,7 +485,7 @@ pub fn own_range(c: Sort, k: u32) -> Item
 pub fn is_fseek(c: Sort, k: u32) -> bool
     ensures { result ≡ is_fseek c k }
 {
-    c == Sort::Stmt && k == 69
+    c == Sort::Stmt && k == FSEEK
 }
 
 impl Offence {
@@ -533,7 +539,7 @@ impl Refusal {
         }
     }
 
-    // The place of a refusal, 0 for all but the offences.
+    // The place of a refusal: by document 01 a number, and 0 for all but the offences.
     pub fn place(self) -> usize
         ensures { result ≡ refusal_place self }
     {

@@ -1,6 +1,7 @@
 // The leaves of the sheet: words, ranges, names, number literals, data, labels. Those of expressions are inlined always: a Walk goes
 // through memory where it is returned.
-ghost use Rattle.std.specs.Prelude.{◌≡◌, ◌+◌, ◌-◌};
+// sheet and at go by themselves, not as a Reader: at is what the call before gave, and a Reader would be made for each.
+ghost use Rattle.std.specs.Prelude.{◌≡◌, ◌+◌, ◌-◌, length};
 ghost use Rattle.recorder.specs.Word.{choose};
 ghost use Rattle.sheet.specs.Table.{kind_number};
 ghost use Rattle.sheet.specs.Form.{is_letter, is_alnum, is_inner, is_last, name_tail, is_name, is_absent, has_unit, in_line, take_word, absent_form, non_empty_form, half_form, number_form, head_form, range_form, text_form, name_form, datum_form, label_form, high_fits, low_fits, lacks_unit};
@@ -35,39 +36,35 @@ fn is_last(u: u16) -> bool
     is_alnum(u) || u == PERCENT || u == DOLLAR
 }
 
-// The n units from a place, behind a name's first.
-#[tactic(auto, unfolding(crate::specs::Form::name_tail))]
-fn name_tail(text: &[u16], at: usize, n: usize) -> bool
-    ensures { result ≡ name_tail text.now at n }
+// What stands behind a name's first unit: letters, digits and blanks, then the last unit.
+fn name_tail(units: &[u16]) -> bool
+    ensures { result ≡ name_tail units.now 0 (length units.now) }
 {
-    let mut p = at;
-    for _ in 1..n {
-        if !is_inner(unit_at(text, p)) {
-            return false;
-        }
-        p = behind(text, p);
+    match units.split_last() {
+        Some((last, inner)) => inner.iter().all(|u| is_inner(*u)) && is_last(*last),
+        None => true,
     }
-    n == 0 || is_last(unit_at(text, p))
 }
 
-#[tactic(auto, unfolding(crate::specs::Form::is_name))]
-fn is_name(text: &[u16], at: usize, n: usize) -> bool
-    ensures { result ≡ is_name text.now at n }
+fn is_name(units: &[u16]) -> bool
+    ensures { result ≡ is_name units.now 0 (length units.now) }
 {
-    0 < n && is_letter(unit_at(text, at)) && name_tail(text, behind(text, at), n - 1)
+    match units.split_first() {
+        Some((first, tail)) => is_letter(*first) && name_tail(tail),
+        None => false,
+    }
 }
 
-// Whether a range of a line holds a name.
-#[tactic(auto, using(crate::proofs::Walks::no_units, crate::proofs::Walks::name_outside))]
+// Whether a range of a line holds a name; one that passes the text's end holds none.
 pub fn is_name_range(text: &[u16], line: Line, r: Range) -> bool
     ensures { result ≡ is_name text.now (line.base + r.start) (r.end - r.start) }
 {
-    let start = r.start as usize;
-    let end = r.end as usize;
-    if end <= start || text.len() <= line.base || text.len() - line.base <= start {
-        return false;
-    }
-    is_name(text, line.base + start, end - start)
+    let units = text.get(line.base..).unwrap_or_default();
+    is_name(
+        units
+            .get(r.start as usize..r.end as usize)
+            .unwrap_or_default(),
+    )
 }
 
 pub fn is_absent(sheet: &[u32], at: usize) -> bool
@@ -101,7 +98,8 @@ pub fn take_word(sheet: &[u32], k: Kind, n: u32, at: usize) -> Walk
     }
 }
 
-// What stands where an option is absent.
+// What stands where an option is absent. The test for it stands in each form that has one, here and in the crates above: one function
+// would take a closure, and ask in public that it may be called.
 pub fn absent_form(sheet: &[u32], at: usize) -> Walk
     ensures { result ≡ absent_form sheet.now at }
 {
@@ -209,7 +207,7 @@ impl LineForm<'_> {
         }
     }
 
-    // A range with a unit.
+    // A range with a unit. text_form and name_form differ in one test; a function over it would take a closure, and be no shorter.
     #[tactic(auto, unfolding(crate::specs::Form::text_form))]
     pub fn text_form(&self, at: usize) -> Walk
         ensures { result ≡ text_form self.now.sheet.now self.now.line at }

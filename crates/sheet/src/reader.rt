@@ -12,11 +12,7 @@ pub struct Reader<'a> {
 fn from<'a>(words: &'a [u32], at: usize) -> &'a [u32]
     ensures { result.now ≡ drop at words.now }
 {
-    if at < words.len() {
-        &words[at..]
-    } else {
-        &words[words.len()..]
-    }
+    words.get(at..).unwrap_or_default()
 }
 
 impl<'a> Reader<'a> {

@@ -1,9 +1,10 @@
 -- The memory's recorder simulates the rules' recorder: the lent words hold what the rules say, as far as it fits.
+use Rattle.std.specs.Prelude.{None}
 use mathlib.Core.Path.{◌≡◌, refl, sym, ap, ◌∙◌}
 use mathlib.Core.List.{List, [], ◌++◌}
 use mathlib.Core.Bool.{true, false}
 use Prim.Native.Nat.{ℕ, ◌-◌, ◌<◌, ◌/◌}
-use lib.Dec.{ltb, eqb}
+use lib.Dec.{eqb}
 use lib.ListN.{length, replicate, length-replicate}
 use borrow.Author.Tests.{le-ltb}
 use native.Mathlib.Omega.{arith}
@@ -26,7 +27,7 @@ use Rattle.simulation.proofs.Clean.{Done, hide_notes, same_records, whiles_are, 
 pub sim_start : (t : List ℕ) (L N B : ℕ) → Sim t L N B (ideal [] [] [] 0 0) (mem (replicate L 0) (replicate N 0) (replicate B 0) nothing)
 unfolding all_small all_fresh how_many bares
 sim_start t L N B = record {
-  st = record { records = 0; notes = 0; entries = 0; names = 0; root = 0; datums = 0; bytes = 0; line = 0; first = 0; list_full = false; notes_full = false; book_full = false };
+  st = record { records = 0; notes = 0; entries = 0; names = 0; root = None; datums = 0; bytes = 0; line = 0; first = None; list_full = false; notes_full = false; book_full = false };
   is = refl;
   listed = record { long = length-replicate L 0; held = none (most_records L); same = λ f. record { rs = []; words_are = empty L; hidden = refl } };
   noted = record { long = length-replicate N 0; held = none (N / 4); same = λ f. empty N };

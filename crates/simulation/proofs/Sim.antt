@@ -1,4 +1,5 @@
 -- The memory holds what the rules' recorder says, as far as it fits; and each operation keeps that so.
+use Rattle.std.specs.Prelude.{Option, None, Some, unwrap_or}
 use mathlib.Core.Path.{◌≡◌, refl, sym, ap, ◌∙◌}
 use mathlib.Core.List.{List, [], ◌∷◌, ◌++◌}
 use mathlib.Core.Bool.{Bool, true, false}
@@ -10,10 +11,11 @@ use native.Mathlib.Decide.{dec_lt}
 use native.Mathlib.Numerals.{add-one}
 use native.Mathlib.Omega.{arith}
 use Rattle.recorder.specs.declared.word.Range.{Range}
-use Rattle.recorder.specs.Word.{pick, kind, payload_at, word_of, range_word}
+use Rattle.recorder.specs.declared.label.DatumIndex.{DatumIndex}
+use Rattle.recorder.specs.Word.{pick, kind, payload_at, word_of, range_word, plus_one}
 use Rattle.recorder.specs.Ideal.{Rec, rec, note_of, Entry, entry, Ideal, ideal, ideal_r, how_many, next_number, added, Search, missing, found, find_name, symbol_in, symbol_of, change, with_a, with_c, settled, unlabelled, no_rec, look_of, first_of}
 use Rattle.recorder.specs.Layout.{rec_words, note_words, entry_words, words_of, fill, most_records}
-use Rattle.recorder.specs.Mem.{Mem, mem, mem_r, records_in, line_in, first_in, list_full, book_full, as_word, low, more, put_list, four, note_list, entry_list, sigil_code, hash_of, name_tag, with_link, known, descent_to, entry_of, linked, root_of, unlink_from, unlinked, symbol_number, symbol_list, symbol_st, datum_list, datum_st, byte_list, byte_st, part, at_rec, on_rec, set_a, set_c, settle_args, clear_args, rec_of, look_at}
+use Rattle.recorder.specs.Mem.{Mem, mem, mem_r, records_in, line_in, datum_word, first_in, list_full, book_full, as_word, low, more, put_list, four, note_list, entry_list, sigil_code, hash_of, name_tag, with_link, known, descent_to, entry_of, linked, root_of, unlink_from, unlinked, symbol_number, symbol_list, symbol_st, datum_list, datum_st, byte_list, byte_st, part, at_rec, on_rec, set_a, set_c, settle_args, clear_args, rec_of, look_at}
 use Rattle.recorder.proofs.Words.{head_kind, length_snoc, put5, put4, words_snoc, length_words4, length_words, change_length, change_out, change_words, squash, rec_of_lem}
 use Rattle.recorder.proofs.Bools.{never}
 use Rattle.simulation.proofs.Hide.{fresh, hide_rec, hide, hide_length, hide_snoc, hide_true, hide_at, change_hidden, blind_same, blind_a, blind_c, blind_settled, blind_unlabelled, hide_number, hide_call, hide_line, hide_c, hide_b, fresh_rec, all_fresh, fresh_snoc, fresh_at, fresh_change}
@@ -311,7 +313,7 @@ pub record Puts (t : List ℕ) (size : ℕ) (is : List Entry) (b' : List ℕ) (n
 
 -- an entry of a kind whose count is n, v in its head
 module _ (t : List ℕ) (size : ℕ) (is : List Entry) (b b' : List ℕ) (st : State) (k v n x y z z' root : ℕ)
-    (s : Booked t size is b st.entries st.names st.datums st.bytes st.root st.book_full) (same : length b' ≡ length b)
+    (s : Booked t size is b st.entries st.names st.datums st.bytes (plus_one st.root) st.book_full) (same : length b' ≡ length b)
     (bared : bare (entry v (next_number k is) x y z) ≡ entry k (next_number k is) x y z') where
   entry_written : st.book_full ≡ false → st.entries < length b / 4 → n ≡ how_many k is → Puts t size is b' st.entries (word_of v (next_number k is)) x y z root
       → Written t size (added k is x y z') (entry_list b' st (word_of v (low n)) x y z) root
@@ -346,19 +348,19 @@ module _ (t : List ℕ) (size : ℕ) (is : List Entry) (b b' : List ℕ) (st : S
   }
 
 -- an entry that is no name
-booked_other : (t : List ℕ) (size : ℕ) (is : List Entry) (b : List ℕ) (st : State) (k n x y z : ℕ) → Booked t size is b st.entries st.names st.datums st.bytes st.root st.book_full
+booked_other : (t : List ℕ) (size : ℕ) (is : List Entry) (b : List ℕ) (st : State) (k n x y z : ℕ) → Booked t size is b st.entries st.names st.datums st.bytes (plus_one st.root) st.book_full
     → (k ≡ 50 → ⊥) → k < 128 → (st.book_full ≡ false → n ≡ how_many k is)
     → Booked t size (added k is x y z) (entry_list b st (word_of k (low n)) x y z)
     (pick (ltb st.entries (length b / 4)) (st.entries + 1) st.entries)
     (pick (eqb k 50) (more st.names (length b / 4)) st.names) (pick (eqb k 51) (more st.datums (length b / 4)) st.datums) (pick (eqb k 52) (more st.bytes (length b / 4)) st.bytes)
-    st.root (pick (ltb st.entries (length b / 4)) st.book_full true)
+    (plus_one st.root) (pick (ltb st.entries (length b / 4)) st.book_full true)
 booked_other t size is b st k n x y z s e j h =
-    booked_entry t size is b b st k k n x y z z st.root s refl (bare_other (entry k (next_number k is) x y z) (le-ltb 127 k (omega arith))) h
+    booked_entry t size is b b st k k n x y z z (plus_one st.root) s refl (bare_other (entry k (next_number k is) x y z) (le-ltb 127 k (omega arith))) h
     (λ f r. let w = s.written f in record {
       rs = w.qs;
       words_are = w.words_are;
       bare_are = w.bare_are;
-      tree = tree_other t b st.entries st.root (word_of k (next_number k is)) x y z r (λ q. omega arith) (λ q. e (omega arith)) (rw (held_count s.held f) at w.tree);
+      tree = tree_other t b st.entries (plus_one st.root) (word_of k (next_number k is)) x y z r (λ q. omega arith) (λ q. e (omega arith)) (rw (held_count s.held f) at w.tree);
     })
 
 -- a symbol: it is found, or it is made
@@ -376,15 +378,15 @@ symbol_made t b st x n g h = let l = le-ltb (entry_of t b st x n g) (known b st)
 -- while the book fits, the search in it is the rules'
 pub record Found (t : List ℕ) (is : List Entry) (b : List ℕ) (st : State) (x n g : ℕ) : Type 0 where
   pub known_is : known b st ≡ length is
-  pub tree : Tree t b (known b st) st.root
+  pub tree : Tree t b (known b st) (plus_one st.root)
   pub finds : Finds (find_name t is x n g) (length is) (entry_of t b st x n g) b
 
 search_same : (t : List ℕ) (size : ℕ) (is : List Entry) (b : List ℕ) (st : State) (x n g : ℕ) → Sigil g
-    → Booked t size is b st.entries st.names st.datums st.bytes st.root st.book_full → st.book_full ≡ false → Found t is b st x n g
+    → Booked t size is b st.entries st.names st.datums st.bytes (plus_one st.root) st.book_full → st.book_full ≡ false → Found t is b st x n g
 search_same t size is b st x n g p s f =
     let w = s.written f in
     let e : known b st ≡ length is = omega (arith, held_count s.held f, held_fits s.held f, s.long) in
-    let T : Tree t b (known b st) st.root = rw e w.tree in
+    let T : Tree t b (known b st) (plus_one st.root) = rw e w.tree in
     let m : known b st ≡ length w.qs = e ∙ sym (written_length w) in
     let l = lookup_finds t b x n g 0 (length is) [] w.qs (replicate (size - length (words_of entry_words w.qs)) 0) p w.words_are refl (omega (arith, written_length w)) (omega arith)
     w.tree (rw w.bare_are s.small) in
@@ -398,22 +400,22 @@ search_same t size is b st x n g p s f =
 pub record Symbols (t : List ℕ) (size : ℕ) (is : List Entry) (b : List ℕ) (st : State) (x n g : ℕ) (ks : List Entry) (v : ℕ) : Type 0 where
   pub entries : ℕ
   pub names : ℕ
-  pub root : ℕ
+  pub root : Option ℕ
   pub full : Bool
   pub state : symbol_st t b st x n g ≡ (with_names (with_entries st entries full) names root)
   pub later : full ≡ false → st.book_full ≡ false
-  pub booked : Booked t size ks (symbol_list t b st x n g) entries names st.datums st.bytes root full
+  pub booked : Booked t size ks (symbol_list t b st x n g) entries names st.datums st.bytes (plus_one root) full
   pub number : full ≡ false → v ≡ symbol_number t b st x n g
 
 -- the link of a new name is set in the words of an earlier one
-name_puts : (t : List ℕ) (size : ℕ) (is : List Entry) (b : List ℕ) (st : State) (x n g h : ℕ) → Written t size is b st.root → length is ≡ st.entries → Tree t b (known b st) st.root → entry_of t b st x n g ≡ known b st
-    → st.entries < length b / 4 → kind h ≡ name_tag t x n g → Puts t size is (linked b st (descent_to t b st x n g)) st.entries h x n (sigil_code g) (root_of b st)
+name_puts : (t : List ℕ) (size : ℕ) (is : List Entry) (b : List ℕ) (st : State) (x n g h : ℕ) → Written t size is b (plus_one st.root) → length is ≡ st.entries → Tree t b (known b st) (plus_one st.root) → entry_of t b st x n g ≡ known b st
+    → st.entries < length b / 4 → kind h ≡ name_tag t x n g → Puts t size is (linked b st (descent_to t b st x n g)) st.entries h x n (sigil_code g) (plus_one (root_of b st))
 name_puts t size is b st x n g h w l T a r k = go (linking t b x n g h st T a r k)
   where
-    tree : Tree t (four (linked b st (descent_to t b st x n g)) st.entries h x n (sigil_code g)) (st.entries + 1) (root_of b st)
+    tree : Tree t (four (linked b st (descent_to t b st x n g)) st.entries h x n (sigil_code g)) (st.entries + 1) (plus_one (root_of b st))
     tree = tree_name t b x n g h st T a r k
 
-    go : Linking t b x n g st → Puts t size is (linked b st (descent_to t b st x n g)) st.entries h x n (sigil_code g) (root_of b st)
+    go : Linking t b x n g st → Puts t size is (linked b st (descent_to t b st x n g)) st.entries h x n (sigil_code g) (plus_one (root_of b st))
     go (from_none e) = record { rs = w.qs; words_are = e ∙ w.words_are; bare_are = w.bare_are; tree = tree }
     go (from_name i u e j c) =
         let v : ℕ = with_link (side u) (get_or b (4 * i + 3) 0) st.entries in
@@ -428,7 +430,7 @@ name_puts t size is b st x n g h w l T a r k = go (linking t b x n g h st T a r 
           tree = tree;
         }
 
-made : (t : List ℕ) (size : ℕ) (is : List Entry) (b : List ℕ) (st : State) (x n g : ℕ) → Sigil g → Booked t size is b st.entries st.names st.datums st.bytes st.root st.book_full
+made : (t : List ℕ) (size : ℕ) (is : List Entry) (b : List ℕ) (st : State) (x n g : ℕ) → Sigil g → Booked t size is b st.entries st.names st.datums st.bytes (plus_one st.root) st.book_full
     → Found t is b st x n g → entry_of t b st x n g ≡ known b st → Symbols t size is b st x n g (added 50 is x n g) (next_number 50 is)
 made t size is b st x n g p s o a =
     let m = symbol_made t b st x n g (omega arith) in
@@ -440,12 +442,12 @@ made t size is b st x n g p s o a =
       state = m.1;
       later = entry_later b st;
       booked = rw m.0
-          (booked_entry t size is b (linked b st (descent_to t b st x n g)) st 50 (name_tag t x n g) st.names x n (sigil_code g) g (root_of b st) s (linked_length t b x n g st) (bare_name (name_tag t x n g) (next_number 50 is) x n g (tag_high (hash_of t x (sigil_code g) n)) p) (λ f. (s.counted f).names_are)
+          (booked_entry t size is b (linked b st (descent_to t b st x n g)) st 50 (name_tag t x n g) st.names x n (sigil_code g) g (plus_one (root_of b st)) s (linked_length t b x n g st) (bare_name (name_tag t x n g) (next_number 50 is) x n g (tag_high (hash_of t x (sigil_code g) n)) p) (λ f. (s.counted f).names_are)
           (λ f r. name_puts t size is b st x n g (word_of (name_tag t x n g) (next_number 50 is)) (s.written f) (held_count s.held f) o.tree a r (head_kind (name_tag t x n g) (next_number 50 is))));
       number = rw m.2 (λ f. ap low (sym (s.counted (pick_sticky (ltb st.entries (length b / 4)) st.book_full f).1).names_are));
     }
 
-kept : (t : List ℕ) (size : ℕ) (is : List Entry) (b : List ℕ) (st : State) (x n g v : ℕ) → Booked t size is b st.entries st.names st.datums st.bytes st.root st.book_full
+kept : (t : List ℕ) (size : ℕ) (is : List Entry) (b : List ℕ) (st : State) (x n g v : ℕ) → Booked t size is b st.entries st.names st.datums st.bytes (plus_one st.root) st.book_full
     → entry_of t b st x n g < known b st → (st.book_full ≡ false → v ≡ payload_at b (4 * entry_of t b st x n g)) → Symbols t size is b st x n g is v
 kept t size is b st x n g v s h e =
     let m = symbol_kept t b st x n g h in
@@ -457,7 +459,7 @@ over : (t : List ℕ) (size : ℕ) (is ks : List Entry) (b b' : List ℕ) (entri
 over t size is ks b b' entries names datums bytes root names' root' full s f h i e =
     record { long = e ∙ s.long; held = held_over (length ks) s.held f h; small = i; written = λ z. never z; counted = λ z. never z }
 
-over_made : (t : List ℕ) (size : ℕ) (is ks : List Entry) (b : List ℕ) (st : State) (x n g v : ℕ) → Booked t size is b st.entries st.names st.datums st.bytes st.root st.book_full
+over_made : (t : List ℕ) (size : ℕ) (is ks : List Entry) (b : List ℕ) (st : State) (x n g v : ℕ) → Booked t size is b st.entries st.names st.datums st.bytes (plus_one st.root) st.book_full
     → st.book_full ≡ true → length is ≤ length ks → all_small ks ≡ true → Dec (entry_of t b st x n g < known b st) → Symbols t size is b st x n g ks v
 over_made t size is ks b st x n g v s f h i (yes d) =
     let m = symbol_kept t b st x n g d in
@@ -468,7 +470,7 @@ over_made t size is ks b st x n g v s f h i (yes d) =
       full = st.book_full;
       state = m.1;
       later = λ z. z;
-      booked = rw (m.0, f) (over t size is ks b b st.entries st.names st.datums st.bytes st.root st.names st.root st.book_full s f h i refl);
+      booked = rw (m.0, f) (over t size is ks b b st.entries st.names st.datums st.bytes (plus_one st.root) st.names (plus_one st.root) st.book_full s f h i refl);
       number = λ z. never (sym f ∙ z);
     }
 over_made t size is ks b st x n g v s f h i (no d) =
@@ -482,7 +484,7 @@ over_made t size is ks b st x n g v s f h i (no d) =
       state = rw o at m.1;
       later = λ z. never z;
       booked = rw m.0
-          (over t size is ks b (entry_list (linked b st (descent_to t b st x n g)) st (word_of (name_tag t x n g) (low st.names)) x n (sigil_code g)) st.entries st.names st.datums st.bytes st.root (more st.names (length b / 4)) (root_of b st) st.book_full s f h i
+          (over t size is ks b (entry_list (linked b st (descent_to t b st x n g)) st (word_of (name_tag t x n g) (low st.names)) x n (sigil_code g)) st.entries st.names st.datums st.bytes (plus_one st.root) (more st.names (length b / 4)) (plus_one (root_of b st)) st.book_full s f h i
           (entry_long (linked b st (descent_to t b st x n g)) st (word_of (name_tag t x n g) (low st.names)) x n (sigil_code g) ∙ linked_length t b x n g st));
       number = λ z. never z;
     }
@@ -496,7 +498,7 @@ abbrev number_of : Search → List Entry → ℕ
 number_of (found v) is = v
 number_of missing is = next_number 50 is
 
-symbols : (t : List ℕ) (size : ℕ) (is : List Entry) (b : List ℕ) (st : State) (x n g : ℕ) → Sigil g → Booked t size is b st.entries st.names st.datums st.bytes st.root st.book_full
+symbols : (t : List ℕ) (size : ℕ) (is : List Entry) (b : List ℕ) (st : State) (x n g : ℕ) → Sigil g → Booked t size is b st.entries st.names st.datums st.bytes (plus_one st.root) st.book_full
     → Symbols t size is b st x n g (entries_of (find_name t is x n g) is x n g) (number_of (find_name t is x n g) is)
 unfolding Finds
 symbols t size is b st x n g p s = which st.book_full refl (find_name t is x n g) refl
@@ -515,7 +517,7 @@ symbols t size is b st x n g p s = which st.book_full refl (find_name t is x n g
         made t size is b st x n g p s q (w ∙ sym q.known_is)
 
 -- closing up takes the links away
-pub unlinked_exact : (t : List ℕ) (size : ℕ) (is : List Entry) (b : List ℕ) (st : State) → Booked t size is b st.entries st.names st.datums st.bytes st.root st.book_full
+pub unlinked_exact : (t : List ℕ) (size : ℕ) (is : List Entry) (b : List ℕ) (st : State) → Booked t size is b st.entries st.names st.datums st.bytes (plus_one st.root) st.book_full
     → Exact entry_words size is (unlinked b st) st.entries st.book_full
 unfolding unlinked
 unlinked_exact t size is b st s = record {
@@ -533,11 +535,11 @@ pub record Sim (t : List ℕ) (L N B : ℕ) (i : Ideal) (m : Mem) : Type 0 where
   pub is : m.st ≡ st
   pub listed : Listed L i.records m.list st.records st.list_full st.book_full
   pub noted : Exact note_words N i.notes m.notes st.notes st.notes_full
-  pub booked : Booked t B i.entries m.book st.entries st.names st.datums st.bytes st.root st.book_full
+  pub booked : Booked t B i.entries m.book st.entries st.names st.datums st.bytes (plus_one st.root) st.book_full
   pub line : i.line ≡ st.line
-  pub first_none : eqb i.first_datum 0 ≡ eqb st.first 0
-  pub first_is : st.book_full ≡ false → i.first_datum ≡ st.first
-  pub first_small : st.first < 4294967296
+  pub first_none : eqb i.first_datum 0 ≡ eqb (first_in st) 0
+  pub first_is : st.book_full ≡ false → i.first_datum ≡ first_in st
+  pub first_small : first_in st < 4294967296
   pub whole : all_fresh i.records ≡ true
 
 -- flags stay set
@@ -564,8 +566,13 @@ module _ {t : List ℕ} {L N B : ℕ} {i : Ideal} {m : Mem} (s : Sim t L N B i m
   pub count_is : Fits m → length i.records ≡ as_word (records_in m.st)
   count_is f = omega (arith, held_count records_held f, records_held.number)
 
-  pub first_word : as_word (first_in m.st) ≡ s.st.first
+  pub first_word : as_word (first_in m.st) ≡ first_in s.st
   first_word = rw s.is (omega (arith, s.first_small))
+
+-- a line's first datum, by the number that is one more
+first_set : (o : Option DatumIndex) (n : ℕ) → datum_word (Some (unwrap_or o (record { 0 = n }))) ≡ first_of (datum_word o) n
+first_set None n = refl
+first_set (Some d) n = refl
 
 first_some : (d n : ℕ) → eqb (first_of d n) 0 ≡ false
 first_some zero n = ne_eqb (suc n) 0 (λ e. omega arith)
@@ -634,15 +641,15 @@ module _ (L N B : ℕ) (t : List ℕ) (clean : Ideal → Ideal) where
   sim_datum i m x n q s =
       let o = entry_later m.book s.st in
       record {
-        st = with_data (entry_in m.book s.st) (more s.st.datums (length m.book / 4)) (first_of s.st.first (low s.st.datums));
+        st = with_data (entry_in m.book s.st) (more s.st.datums (length m.book / 4)) (Some (unwrap_or s.st.first (record { 0 = low s.st.datums })));
         is = rw (s.is, entry_form m.book s.st);
         listed = listed_later L i.records m.list s.st.records s.st.list_full s.st.book_full (entry_in m.book s.st).book_full o s.listed;
         noted = s.noted;
         booked = rw s.is (booked_other t B i.entries m.book s.st 51 s.st.datums x n q s.booked (λ e. omega arith) (omega arith) (λ f. (s.booked.counted f).datums_are));
         line = s.line;
-        first_none = first_some i.first_datum (next_number 51 i.entries) ∙ sym (first_some s.st.first (low s.st.datums));
-        first_is = λ f. rw (s.first_is (o f), ← (s.booked.counted (o f)).datums_are);
-        first_small = first_fits s.st.first s.st.datums s.first_small;
+        first_none = first_some i.first_datum (next_number 51 i.entries) ∙ sym (rw (first_set s.st.first (low s.st.datums)) (first_some (first_in s.st) (low s.st.datums)));
+        first_is = λ f. rw (s.first_is (o f), first_set s.st.first (low s.st.datums), ← (s.booked.counted (o f)).datums_are);
+        first_small = rw (first_set s.st.first (low s.st.datums)) (first_fits (first_in s.st) s.st.datums s.first_small);
         whole = s.whole;
       }
 

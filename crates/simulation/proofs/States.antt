@@ -1,14 +1,16 @@
 -- What a put changes of the state, and that flags stay set.
+use Rattle.std.specs.Prelude.{Option, None}
 use mathlib.Core.Path.{◌≡◌, refl}
 use mathlib.Core.List.{List}
 use mathlib.Core.Bool.{Bool, true, false}
 use Prim.Native.Nat.{ℕ, ◌+◌, ◌/◌}
 use lib.Dec.{ltb}
-use lib.ListN.{length, set}
+use lib.ListN.{length}
 use Rattle.recorder.specs.declared.codegen.State.{State}
+use Rattle.recorder.specs.declared.label.DatumIndex.{DatumIndex}
 use Rattle.recorder.specs.Word.{pick}
 use Rattle.recorder.specs.Layout.{most_records}
-use Rattle.recorder.specs.Mem.{list_full, book_full, on_line, put_st, note_st, entry_st, known, entry_of, new_st, symbol_st, datum_st, byte_st}
+use Rattle.recorder.specs.Mem.{on_line, put_st, note_st, entry_st, known, entry_of, new_st, symbol_st, datum_st, byte_st}
 use Rattle.recorder.proofs.Bools.{never}
 
 -- one count anew, and its buffer's flag; or one kind's count
@@ -21,17 +23,17 @@ with_notes s n f = record s { notes = n; notes_full = f }
 abbrev pub with_entries : State → ℕ → Bool → State
 with_entries s n f = record s { entries = n; book_full = f }
 
-abbrev pub with_names : State → ℕ → ℕ → State
+abbrev pub with_names : State → ℕ → Option ℕ → State
 with_names s n k = record s { names = n; root = k }
 
-abbrev pub with_data : State → ℕ → ℕ → State
+abbrev pub with_data : State → ℕ → Option DatumIndex → State
 with_data s n d = record s { datums = n; first = d }
 
 abbrev pub with_bytes : State → ℕ → State
 with_bytes s n = record s { bytes = n }
 
 abbrev pub with_line : State → ℕ → State
-with_line s l = record s { line = l; first = 0 }
+with_line s l = record s { line = l; first = None }
 
 -- a record, a note, an entry put
 abbrev pub put_in : List ℕ → State → State

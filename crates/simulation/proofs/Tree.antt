@@ -8,10 +8,11 @@ use lib.ListN.{length, get_or, set, length-set}
 use lib.Seq.{get_or-set_same, get_or-set_other}
 use borrow.Author.Tests.{lt-ltb, le-ltb, ltb-true, eqb-true, eq-eqb, ne_eqb}
 use native.Mathlib.Decide.{dec_lt, ℕ_discrete}
+use native.Mathlib.Numerals.{add-one}
 use native.Mathlib.Omega.{arith}
 use Rattle.recorder.specs.declared.codegen.Descent.{Descent}
 use Rattle.recorder.specs.declared.codegen.State.{State}
-use Rattle.recorder.specs.Word.{pick, both, kind, kind_at, next}
+use Rattle.recorder.specs.Word.{pick, both, kind, kind_at, next, plus_one}
 use Rattle.recorder.specs.Name.{upper, same_units, same_name}
 use Rattle.recorder.specs.Mem.{entries_in, root_in, four, sigil_code, sigil_of, link_of, with_link, known, tag_of, name_tag, named_at, lookup, hash_step, hash_of, child_of, has_child, descent_from, descent_to, entry_of, may_link, linked_at, linked, root_of}
 use Rattle.recorder.proofs.Bools.{never, both_parts, both_false}
@@ -597,13 +598,13 @@ module _ (t b : List ℕ) (x n g h : ℕ) (s : State) (T : Tree t b (known b s) 
   unfolding linked linked_at
   is_linked w l = let q = end_is w in rw (lt-ltb 0 (root_in s) w, lt-ltb (entries_in s) (length b / 4) room, lt-ltb (entries_in s) 32768 l, lt-ltb D.at (length b / 4) (omega arith))
 
-  root_stays : both (eqb (root_in s) 0) (ltb (entries_in s) 32768) ≡ false → root_of b s ≡ root_in s
+  root_stays : both (eqb (root_in s) 0) (ltb (entries_in s) 32768) ≡ false → plus_one (root_of b s) ≡ root_in s
   unfolding root_of
   root_stays e = rw (lt-ltb (entries_in s) (length b / 4) room, e)
 
-  root_new : root_in s ≡ 0 → entries_in s < 32768 → root_of b s ≡ entries_in s + 1
+  root_new : root_in s ≡ 0 → entries_in s < 32768 → plus_one (root_of b s) ≡ entries_in s + 1
   unfolding root_of
-  root_new e l = rw (lt-ltb (entries_in s) (length b / 4) room, eq-eqb (root_in s) 0 e, lt-ltb (entries_in s) 32768 l)
+  root_new e l = rw (lt-ltb (entries_in s) (length b / 4) room, eq-eqb (root_in s) 0 e, lt-ltb (entries_in s) 32768 l) (sym (add-one (entries_in s)))
 
   pub linking : Linking t b x n g s
   linking = go (dec_lt 0 (root_in s)) (dec_lt (entries_in s) 32768)
@@ -613,10 +614,10 @@ module _ (t b : List ℕ) (x n g h : ℕ) (s : State) (T : Tree t b (known b s) 
       go (no w) l = from_none (not_linked (rw (le-ltb 0 (root_in s) (omega arith))))
       go (yes w) (no l) = from_none (not_linked (rw (le-ltb (entries_in s) 32768 (omega arith)) (both_false (ltb 0 (root_in s)))))
 
-  pub tree_name : Tree t (four (linked b s (descent_to t b s x n g)) (entries_in s) h x n (sigil_code g)) (entries_in s + 1) (root_of b s)
+  pub tree_name : Tree t (four (linked b s (descent_to t b s x n g)) (entries_in s) h x n (sigil_code g)) (entries_in s + 1) (plus_one (root_of b s))
   tree_name = go (dec_lt 0 (root_in s)) (dec_lt (entries_in s) 32768)
     where
-      go : Dec (0 < root_in s) → Dec (entries_in s < 32768) → Tree t (four (linked b s (descent_to t b s x n g)) (entries_in s) h x n (sigil_code g)) (entries_in s + 1) (root_of b s)
+      go : Dec (0 < root_in s) → Dec (entries_in s < 32768) → Tree t (four (linked b s (descent_to t b s x n g)) (entries_in s) h x n (sigil_code g)) (entries_in s + 1) (plus_one (root_of b s))
       go w (no l) =
           rw (not_linked (rw (le-ltb (entries_in s) 32768 (omega arith)) (both_false (ltb 0 (root_in s)))), root_stays (rw (le-ltb (entries_in s) 32768 (omega arith)) (both_false (eqb (root_in s) 0))))
           (tree_grown t b (four b (entries_in s) h x n (sigil_code g)) (entries_in s) (four_grown b (entries_in s) h x n (sigil_code g) room) (root_in s) T'

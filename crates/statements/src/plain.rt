@@ -16,8 +16,7 @@ use nodes::source::Source;
 use operations::draw::compile_draw_stmt;
 use operations::locate::compile_locate;
 use operations::op::{
-    compile_binary_stmt, compile_fread_fwrite, compile_no_op, compile_op, compile_rem, compile_run,
-    compile_set, compile_system, compile_unary_stmt,
+    compile_no_op, compile_operands, compile_rem, compile_run, compile_set, compile_system,
 };
 use places::place::{compile_let, compile_read, compile_swap};
 use prints::prints::compile_print;
@@ -28,7 +27,8 @@ use sheet::form::Shape;
 use transfers::loads::compile_load;
 use transfers::opens::compile_open;
 
-// The arms' functions take parameters of their own; a table of function pointers would lose which one is called.
+// The arms' functions take parameters of their own; a table of function pointers would lose which one is called. A statement's number and
+// range go on as two: most shapes want the range alone.
 pub fn compile_plain(
     src: &Source,
     code: &mut CodeGen,
@@ -44,11 +44,11 @@ pub fn compile_plain(
     match s {
         Shape::Rem => compile_rem(src, code, at, r),
         Shape::NoOp => compile_no_op(code, at, r),
-        Shape::Op0 => compile_op(code, at, k, r),
+        Shape::Op0 => compile_operands(src, code, at, left, 0, k, r),
         Shape::Run => compile_run(src, code, at, k, r),
-        Shape::Op1 => compile_unary_stmt(src, code, at, left, k, r),
-        Shape::Op2 => compile_binary_stmt(src, code, at, left, k, r),
-        Shape::Op3 => compile_fread_fwrite(src, code, at, left, k, r),
+        Shape::Op1 => compile_operands(src, code, at, left, 1, k, r),
+        Shape::Op2 => compile_operands(src, code, at, left, 2, k, r),
+        Shape::Op3 => compile_operands(src, code, at, left, 3, k, r),
         Shape::Draw => compile_draw_stmt(src, code, at, left, k, r),
         Shape::Set => compile_set(src, code, at, left, k, r),
         Shape::Data => compile_data(src, code, at),
@@ -61,17 +61,17 @@ pub fn compile_plain(
         Shape::If => at,
         Shape::Input => compile_input(src, code, at, left, r),
         Shape::Let => compile_let(src, code, at, left, r),
-        Shape::Load => compile_load(src, code, at, left, k, r),
+        Shape::Load => compile_load(src, code, at, left, r),
         Shape::Locate => compile_locate(src, code, at, left, r),
         Shape::Next => compile_next(src, code, at, r),
         Shape::On => compile_on(src, code, at, left, r),
-        Shape::Open => compile_open(src, code, at, left, k, r),
-        Shape::Print => compile_print(src, code, at, left, k, r),
+        Shape::Open => compile_open(src, code, at, left, r),
+        Shape::Print => compile_print(src, code, at, left, r),
         Shape::Read => compile_read(src, code, at, left, r),
         Shape::Restore => compile_restore(src, code, at, r),
         Shape::Swap => compile_swap(src, code, at, left, r),
         Shape::System => compile_system(code, at, r),
         Shape::While => compile_while(src, code, at, left, r),
-        Shape::Write => compile_write(src, code, at, left, k, r),
+        Shape::Write => compile_write(src, code, at, left, r),
     }
 }

@@ -46,7 +46,7 @@ fn else_head(code: &mut CodeGen, jump: Addr, r: Range)
     ensures same { SameLoans code.old code.new }
     ensures value { (t : List ℕ) (base : ℕ) → mem_of code.new ≡ end_here (mem_r t) t base jump.0 (else_jump (mem_r t) t base r (mem_of code.old)) }
 {
-    code.emit(r, Call::Goto(0, 0));
+    code.emit(r, Call::Goto(None));
     end_here(code, jump);
 }
 
@@ -70,6 +70,7 @@ fn compile_if(src: &Source, code: &mut CodeGen, at: usize, left: usize, r: Range
 }
 
 #[cycle(stmt_cycle)]
+#[tactic(auto, unfolding(sheet::specs::Tree::stmt_at, sheet::specs::Tree::stmt_node, sheet::specs::Skip::skip_node, rules::specs::Stmt::compile_stmt), using(sheet::proofs::Shapes::fields_rule))]
 pub fn compile_stmt(src: &Source, code: &mut CodeGen, at: usize, left: usize) -> usize
     ensures same { SameLoans code.old code.new }
     ensures value { CompiledStmt src.now.sheet.now src.now.text.now src.now.base left at (mem_of code.old) (mem_of code.new) result }
@@ -90,8 +91,10 @@ pub fn compile_stmt(src: &Source, code: &mut CodeGen, at: usize, left: usize) ->
     }
 }
 
-// The counted statements at a place.
+// The counted statements at a place. accept_fields' lists share a loop over a closure. Here the closure would write code, of which a
+// contract says only that it was called.
 #[cycle(stmt_cycle)]
+#[tactic(auto, unfolding(sheet::specs::Skip::skip_list, sheet::specs::Skip::skip_repeat, sheet::specs::Tree::stmts_at, rules::specs::Stmt::compile_stmts), using(expressions::proofs::Lists::turns))]
 pub fn compile_stmts(src: &Source, code: &mut CodeGen, at: usize, left: usize) -> usize
     ensures same { SameLoans code.old code.new }
     ensures value { CompiledStmts src.now.sheet.now src.now.text.now src.now.base left at (mem_of code.old) (mem_of code.new) result }

@@ -28,10 +28,9 @@ enum ReadByte {
 fn up_to_255(n: u32) -> ReadByte
     ensures { read_of result ≡ up_to255 n }
 {
-    if n < 256 {
-        ReadByte::Value(n as u8)
-    } else {
-        ReadByte::Bad
+    match u8::try_from(n) {
+        Ok(v) => ReadByte::Value(v),
+        Err(_) => ReadByte::Bad,
     }
 }
 
@@ -39,8 +38,8 @@ fn digit_behind(b: ReadByte, d: u16) -> ReadByte
     ensures { read_of result ≡ digit (read_of b) d }
 {
     match b {
-        ReadByte::Value(v) => up_to_255(v as u32 * 10 + d as u32),
-        ReadByte::Nothing | ReadByte::Plus => up_to_255(d as u32),
+        ReadByte::Value(v) => up_to_255(u32::from(v) * 10 + u32::from(d)),
+        ReadByte::Nothing | ReadByte::Plus => up_to_255(u32::from(d)),
         ReadByte::Bad => ReadByte::Bad,
     }
 }
@@ -67,6 +66,8 @@ fn byte_unit(b: ReadByte, u: u16) -> ReadByte
     }
 }
 
+// Behind the text each unit reads as 0, which is no byte; a slice's iterator would end there and take a shorter number.
+#[tactic(auto, unfolding(rules::specs::Stmt::byte_units), using(expressions::proofs::Lists::turns))]
 fn byte_units(text: &[u16], at: usize, n: u32) -> ReadByte
     ensures { read_of result ≡ byte_units text.now at n fresh }
 {
@@ -102,7 +103,7 @@ fn byte_of(src: &Source, at: usize, left: usize) -> Option<u8>
     match ExprKind::of(recorder::word::payload_at(src.sheet, at)) {
         ExprKind::NumberLit => {
             let r = expressions::expr::node_range(src.sheet, at);
-            let a = rules::name::text_place(src.base, r.start as u32);
+            let a = rules::name::text_place(src.base, u32::from(r.start));
             let n = rules::name::units(r);
             byte_units(src.text, a as usize, n).byte()
         }
@@ -120,7 +121,9 @@ fn bad_byte(code: &mut CodeGen, v: Option<u8>, r: Range)
     }
 }
 
-// The notes for so many arguments, and the place behind them.
+// The notes for so many arguments, and the place behind them. load_bytes and all_bytes walk alike, but of a closure that writes
+// code one walk's contract could say only that its calls ran.
+#[tactic(auto, unfolding(sheet::specs::Skip::skip_repeat, sheet::specs::Tree::exprs_at, rules::specs::Stmt::bad_bytes), using(expressions::proofs::Lists::turns, expressions::proofs::ExprLaws::range_of_lem))]
 fn bad_bytes(src: &Source, code: &mut CodeGen, at: usize, left: usize, n: u32) -> usize
     ensures same { SameLoans code.old code.new }
     ensures value { BytesNoted src.now.sheet.now src.now.text.now src.now.base left n at (mem_of code.old) (mem_of code.new) result }
@@ -136,14 +139,15 @@ fn bad_bytes(src: &Source, code: &mut CodeGen, at: usize, left: usize, n: u32) -
 }
 
 // Whether each of so many arguments is a byte.
+#[tactic(auto, unfolding(sheet::specs::Tree::exprs_at, rules::specs::Stmt::all_bytes), using(expressions::proofs::Lists::turns))]
 fn all_bytes(src: &Source, at: usize, left: usize, n: u32) -> bool
     ensures { result ≡ all_bytes (mem_r src.now.text.now) src.now.text.now src.now.base (args_at src.now.sheet.now left n at) }
 {
     let mut p = at;
     for _ in 0..n {
-        let Some(_) = byte_of(src, p, left) else {
+        if byte_of(src, p, left).is_none() {
             return false;
-        };
+        }
         p = walk::stmt::skip_expr(src.sheet, p, left);
     }
     true
@@ -155,12 +159,13 @@ fn load_one(src: &Source, code: &mut CodeGen, v: Option<u8>, r: Range)
     ensures value { (t : List ℕ) → mem_of code.new ≡ load_byte (mem_r t) t src.now.base (opt_of v) r (mem_of code.old) }
 {
     if let Some(byte) = v {
-        let a = rules::name::text_place(src.base, r.start as u32);
+        let a = rules::name::text_place(src.base, u32::from(r.start));
         let n = rules::name::units(r);
         code.load_byte(a, n, u32::from(byte))
     }
 }
 
+#[tactic(auto, unfolding(sheet::specs::Tree::exprs_at, rules::specs::Stmt::load_bytes), using(expressions::proofs::Lists::turns, expressions::proofs::ExprLaws::range_of_lem))]
 fn load_bytes(src: &Source, code: &mut CodeGen, at: usize, left: usize, n: u32)
     ensures same { SameLoans code.old code.new }
     ensures value { mem_of code.new ≡ load_bytes (mem_r src.now.text.now) src.now.text.now src.now.base (args_at src.now.sheet.now left n at) (mem_of code.old) }
@@ -175,6 +180,7 @@ fn load_bytes(src: &Source, code: &mut CodeGen, at: usize, left: usize, n: u32)
 }
 
 // From the argument behind the first on, n of them.
+#[tactic(auto, unfolding(sheet::specs::Tree::exprs_at, sheet::specs::Skip::skip_repeat, rules::specs::Stmt::load_node))]
 fn load_node(src: &Source, code: &mut CodeGen, at: usize, left: usize, n: u32, r: Range) -> usize
     ensures same { SameLoans code.old code.new }
     ensures value { Loaded src.now.sheet.now src.now.text.now src.now.base left n r at (mem_of code.old) (mem_of code.new) result }
@@ -194,16 +200,9 @@ fn load_node(src: &Source, code: &mut CodeGen, at: usize, left: usize, n: u32, r
     }
 }
 
-pub fn compile_load(
-    src: &Source,
-    code: &mut CodeGen,
-    at: usize,
-    left: usize,
-    k: u32,
-    r: Range,
-) -> usize
+pub fn compile_load(src: &Source, code: &mut CodeGen, at: usize, left: usize, r: Range) -> usize
     ensures same { SameLoans code.old code.new }
-    ensures value { Body src.now.sheet.now src.now.text.now src.now.base left Shape.Load k r at (mem_of code.old) (mem_of code.new) result }
+    ensures value { (k : ℕ) → Body src.now.sheet.now src.now.text.now src.now.base left Shape.Load k r at (mem_of code.old) (mem_of code.new) result }
 {
     let c = expressions::expr::read_payload(src.sheet, at);
     if c.value == 0 {

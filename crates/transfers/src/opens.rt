@@ -13,12 +13,17 @@ use recorder::word::Range;
 use rules::types::Type;
 use sheet::form::Shape;
 
+// Two modes of OPEN by their numbers.
+const ERROR: u32 = 0;
+
+const RANDOM: u32 = 1;
+
 // LEN with a mode that is neither Error nor Random. A mode goes into the record as it stands in the sheet, so it is no enum.
 fn len_note(code: &mut CodeGen, mode: u32, r: Range)
     ensures same { SameLoans code.old code.new }
     ensures value { (t : List ℕ) (base : ℕ) → mem_of code.new ≡ len_notes (mem_r t) t base mode r (mem_of code.old) }
 {
-    if 1 < mode {
+    if !matches!(mode, ERROR | RANDOM) {
         code.note(Class::NotAllowed, r)
     }
 }
@@ -28,7 +33,7 @@ fn open_call(code: &mut CodeGen, mode: u32, r: Range)
     ensures same { SameLoans code.old code.new }
     ensures value { (t : List ℕ) → mem_of code.new ≡ open_call (mem_r t) mode r (mem_of code.old) }
 {
-    if mode == 0 {
+    if mode == ERROR {
         return;
     }
     code.emit(r, Call::Open(mode, true))
@@ -51,16 +56,10 @@ fn open_node(src: &Source, code: &mut CodeGen, at: usize, left: usize, mode: u32
     x
 }
 
-pub fn compile_open(
-    src: &Source,
-    code: &mut CodeGen,
-    at: usize,
-    left: usize,
-    k: u32,
-    r: Range,
-) -> usize
+#[tactic(auto, unfolding(sheet::specs::Tree::stmt_node, rules::specs::Stmt::compile_stmt, rules::specs::Stmt::compile_open, sheet::specs::Skip::skip_fields, sheet::specs::Skip::skip_field, sheet::specs::Skip::skip_times, sheet::specs::Skip::skip_pair, sheet::specs::Skip::skip_item))]
+pub fn compile_open(src: &Source, code: &mut CodeGen, at: usize, left: usize, r: Range) -> usize
     ensures same { SameLoans code.old code.new }
-    ensures value { Body src.now.sheet.now src.now.text.now src.now.base left Shape.Open k r at (mem_of code.old) (mem_of code.new) result }
+    ensures value { (k : ℕ) → Body src.now.sheet.now src.now.text.now src.now.base left Shape.Open k r at (mem_of code.old) (mem_of code.new) result }
 {
     let f = expressions::expr::compile_typed(src, code, at, left, Type::String);
     let m = expressions::expr::read_payload(src.sheet, f);

@@ -6,21 +6,18 @@ use Prim.Native.Nat.{ℕ, zero, suc, ◌+◌, ◌-◌, ◌≤◌, ◌<◌}
 use native.Mathlib.Omega.{arith}
 use borrow.Author.Tests.{eqb-true, ltb-true, ltb-false, lt-ltb}
 use lib.Dec.{ltb, eqb}
-use lib.ListN.{length, get_or, get_or-eq_default, drop}
-use Rattle.std.proofs.Math.Seq.{drop-cons}
-use Rattle.std.proofs.lemmas.List.{drop_all}
+use lib.ListN.{length, get_or, get_or-eq_default}
 use Rattle.recorder.specs.Word.{both, kind_at, payload_at, next}
 use Rattle.recorder.proofs.Bools.{both_left}
 use Rattle.sheet.specs.declared.form.Sort.{Sort}
 use Rattle.sheet.specs.declared.form.Sort.TheVariants.{Expr, Place, InputPlace, Stmt}
-use Rattle.sheet.specs.declared.form.Field.{Field}
 use Rattle.sheet.specs.declared.form.Offence.{Offence}
 use Rattle.sheet.specs.declared.form.Offence.TheVariants.{BadWord}
 use Rattle.sheet.specs.Walk.{Walk}
 use Rattle.std.specs.Prelude.{Ok, Err}
 use Rattle.sheet.specs.declared.form.Line.{Line}
 use Rattle.sheet.specs.Table.{node_kind, may_stand}
-use Rattle.sheet.specs.Form.{then, head_form, text_form, range_form, source_rest, element_rest, repeat_form, field_form, fields_form}
+use Rattle.sheet.specs.Form.{head_form, repeat_form}
 use Rattle.sheet.proofs.Walks.{then_stop, then_go, pick_behind}
 use Rattle.walk.proofs.Steps.{Ends}
 
@@ -54,25 +51,6 @@ head_moves s c p q w e h =
     (i, sym k.1 ∙ next_inside s p i)
 
 module _ (s t : List ℕ) (line : Line) where
-  module _ (child : Sort → ℕ → Walk) where
-    pub source_keyboard : (n m p : ℕ) → n ≡ m → n ≡ 0 → Ok p ≡ source_rest s t line child m p
-    source_keyboard n m p e h = let z : m ≡ 0 = sym e ∙ h in rw z
-
-    pub source_prompt : (n m p : ℕ) (w : Walk) → n ≡ m → n ≡ 1 → w ≡ text_form s line p → w ≡ source_rest s t line child m p
-    source_prompt n m p w e h k = let z : m ≡ 1 = sym e ∙ h in rw z k
-
-    pub source_file : (n m p : ℕ) (w : Walk) → n ≡ m → (n ≡ 0 → ⊥) → (n ≡ 1 → ⊥) → w ≡ child Expr p → w ≡ source_rest s t line child m p
-    source_file n zero p w e h k f = absurd (h e)
-    source_file n (suc zero) p w e h k f = absurd (k e)
-    source_file n (suc (suc m)) p w e h k f = f
-
-    pub element_expr : (n m p : ℕ) (w : Walk) → n ≡ m → n ≡ 0 → w ≡ child Expr p → w ≡ element_rest s t line child m p
-    element_expr n m p w e h k = let z : m ≡ 0 = sym e ∙ h in rw z k
-
-    pub element_range : (n m p : ℕ) (w : Walk) → n ≡ m → (n ≡ 0 → ⊥) → w ≡ range_form s line p → w ≡ element_rest s t line child m p
-    element_range n zero p w e h k = absurd (h e)
-    element_range n (suc m) p w e h k = k
-
   module _ (f : ℕ → Walk) where
     pub repeat_step : (n p e : ℕ) (v z : Walk) → 0 < n → v ≡ f p → v ≡ Ok e → repeat_form s t line f n p ≡ z → repeat_form s t line f (n - 1) e ≡ z
     unfolding repeat_form
@@ -89,19 +67,3 @@ module _ (s t : List ℕ) (line : Line) where
     unfolding repeat_form
     repeat_end zero p m q n₀ h k e = k ∙ ap (λ (i : ℕ). repeat_form s t line f i q) e
     repeat_end (suc n) p m q n₀ h k e = absurd (omega arith)
-
-  module _ (child : Sort → ℕ → Walk) where
-    -- the field at i, and those behind it
-    fields_split : (fs : List Field) (i p : ℕ) (d : Field) → i < length fs → fields_form s t line child (drop i fs) p
-        ≡ then (field_form s t line child (get_or fs i d) p) (λ q. fields_form s t line child (drop (i + 1) fs) q)
-    unfolding fields_form
-    fields_split fs i p d h = let e : i + 1 ≡ suc i = omega arith in rw (e, drop-cons fs i d h)
-
-    pub fields_step : (fs : List Field) (i p q : ℕ) (f : Field) (v z : Walk) → i < length fs → f ≡ get_or fs i f → v ≡ field_form s t line child f p → v ≡ Ok q
-        → fields_form s t line child (drop i fs) p ≡ z → fields_form s t line child (drop (i + 1) fs) q ≡ z
-    fields_step fs i p q f v z h a b k l =
-        then_go v _ _ q (λ r. fields_form s t line child (drop (i + 1) fs) r) (b ∙ ap (λ (g : Field). field_form s t line child g p) a) k refl ∙ sym (fields_split fs i p f h) ∙ l
-
-    pub fields_end : (fs : List Field) (i p : ℕ) (z : Walk) → length fs ≤ i → fields_form s t line child (drop i fs) p ≡ z → Ok p ≡ z
-    unfolding fields_form
-    fields_end fs i p z h l = rw (drop_all i fs h) at l

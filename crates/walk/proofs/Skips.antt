@@ -7,7 +7,6 @@ use native.Mathlib.Omega.{arith}
 use borrow.Author.Tests.{le-ltb}
 use lib.ListN.{length, get_or, get_or-eq_default, drop}
 use Rattle.std.proofs.Math.Seq.{drop-cons}
-use Rattle.std.proofs.lemmas.List.{drop_all}
 use Rattle.recorder.specs.Word.{choose, payload_at, next}
 use Rattle.sheet.specs.declared.form.Item.{Item}
 use Rattle.sheet.specs.declared.form.Item.TheVariants.{Nothing, Word, Range as range, Name as name, OptionalName as optionalName, Text as text, Node, Number as number, OptionalLabel as optionalLabel, Source as source, Element as element, Datum as datum}
@@ -16,10 +15,15 @@ use Rattle.sheet.specs.declared.form.Sort.TheVariants.{Expr, Place, InputPlace, 
 use Rattle.sheet.specs.declared.form.Times.{Times}
 use Rattle.sheet.specs.declared.form.Times.TheVariants.{Once, Optional, List as Listed, NonEmpty, OptionalList}
 use Rattle.sheet.specs.declared.form.Field.{Field}
-use Rattle.sheet.specs.Table.{fields_of, expr_fields, stmt_fields}
+use Rattle.sheet.specs.declared.form.SourceKind.TheVariants.{File}
+use Rattle.sheet.specs.Table.{fields_of, expr_fields, stmt_fields, source_kind}
 use Rattle.sheet.specs.Form.{is_absent}
 use Rattle.sheet.specs.Skip.{skip_source, skip_element, skip_item, skip_pair, skip_repeat, skip_list, skip_times, skip_field, skip_fields, skip_node}
+use Rattle.sheet.proofs.Cases.{source_number}
 use Rattle.walk.proofs.Steps.{Steps, here, further, to_next}
+
+pub file_two : (k : ℕ) → File ≡ source_kind k → 2 ≤ k
+file_two k e = source_number k File e
 
 module _ (s : List ℕ) where
   two_next : (p : ℕ) → Steps s p (next s (next s p))
@@ -126,21 +130,6 @@ module _ (s : List ℕ) where
   node_end (suc left) c p h = rw (end_stays p h, end_stays p h, get_or-eq_default s 0 h) (sym (kind_end (skip_node s left) c p h))
 
   module _ (child : Sort → ℕ → ℕ) where
-    pub source_none : (n m p q : ℕ) → n ≡ m → n ≡ 0 → p ≡ q → p ≡ skip_source s child m q
-    source_none n m p q e h k = let z : m ≡ 0 = sym e ∙ h in rw z k
-
-    pub source_file : (n m p q r : ℕ) → n ≡ m → (n ≡ 0 → ⊥) → (n ≡ 1 → ⊥) → p ≡ q → r ≡ child Expr p → r ≡ skip_source s child m q
-    source_file n zero p q r e h k x f = absurd (h e)
-    source_file n (suc zero) p q r e h k x f = absurd (k e)
-    source_file n (suc (suc m)) p q r e h k x f = rw x at f
-
-    pub element_expr : (n m p q r : ℕ) → n ≡ m → n ≡ 0 → p ≡ q → r ≡ child Expr p → r ≡ skip_element s child m q
-    element_expr n m p q r e h k f = let z : m ≡ 0 = sym e ∙ h in rw (z, ← k) f
-
-    pub element_range : (n m p q r : ℕ) → n ≡ m → (n ≡ 0 → ⊥) → p ≡ q → r ≡ next s p → r ≡ skip_element s child m q
-    element_range n zero p q r e h k f = absurd (h e)
-    element_range n (suc m) p q r e h k f = rw k at f
-
     pub fields_step : (fs : List Field) (i p q : ℕ) (f : Field) (z : ℕ) → i < length fs → f ≡ get_or fs i f → q ≡ skip_field s child f p
         → skip_fields s child (drop i fs) p ≡ z → skip_fields s child (drop (i + 1) fs) q ≡ z
     unfolding skip_fields
@@ -149,21 +138,8 @@ module _ (s : List ℕ) where
         let m : drop i fs ≡ f ∷ drop (suc i) fs = drop-cons fs i f h ∙ ap (λ (g : Field). g ∷ drop (suc i) fs) (sym a) in
         rw (e, b) (rw m at k)
 
-    pub fields_end : (fs : List Field) (i p z : ℕ) → length fs ≤ i → skip_fields s child (drop i fs) p ≡ z → p ≡ z
-    unfolding skip_fields
-    fields_end fs i p z h l = rw (drop_all i fs h) at l
-
   module _ (f : ℕ → ℕ) where
     pub repeat_step : (n p q z : ℕ) → 0 < n → q ≡ f p → skip_repeat s f n p ≡ z → skip_repeat s f (n - 1) q ≡ z
     unfolding skip_repeat
     repeat_step zero p q z h a k = absurd (omega arith)
     repeat_step (suc n) p q z h a k = let m : suc n - 1 ≡ n = omega arith in rw (m, a) k
-
-    pub repeat_end : (n p n₀ p₀ at : ℕ) → n ≤ 0 → skip_repeat s f n p ≡ skip_repeat s f n₀ p₀ → n₀ ≡ payload_at s at → p₀ ≡ next s at → p ≡ skip_list s f at
-    unfolding skip_repeat skip_list
-    repeat_end zero p n₀ p₀ at h k a b = rw (a, b) at k
-    repeat_end (suc n) p n₀ p₀ at h k a b = absurd (omega arith)
-
-  pub node_none : (left : ℕ) (c : Sort) (p : ℕ) → left ≡ 0 → p ≡ skip_node s left c p
-  unfolding skip_node
-  node_none left c p h = rw h

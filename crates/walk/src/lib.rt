@@ -1,5 +1,4 @@
-// The walk over a whole sheet by the table of its form: its first offence, the places behind its parts, and the shapes of its
-// statements.
+// The skip over a sheet by the table of its form, the first word of a line, the end of the sheet, and the shapes of statements.
 #![tactic(auto)]
 
 pub mod shape;

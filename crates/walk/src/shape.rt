@@ -5,7 +5,7 @@ ghost use Rattle.sheet.specs.Tree.{shape_table, shape_of};
 
 use sheet::form::{Field, Shape, Sort};
 
-// By the place in StmtKind, eight on a line.
+// By the place in StmtKind, eight below each comment. A statement is told by its number: an enum would need 72 arms to be read.
 const SHAPES: &[Shape] = &[
     // Auto, Beep, Box, Call, Circle, Clear, Close, Cls
     Shape::Rem,

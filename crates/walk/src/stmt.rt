@@ -1,6 +1,7 @@
 // The first word of a line, the end of the sheet, and the places behind statements and expressions: the table's fields, walked over
 // the sheet.
 // Each child is read by a call, with the remaining words as the number that falls.
+// sheet, left and at go by themselves, no Reader among them: at is what the call before gave, and a Reader would be made for each.
 ghost use Rattle.std.specs.Prelude.{◌≡◌, ◌+◌, ◌-◌, leb};
 ghost use Rattle.sheet.specs.Form.{line_head, end_form};
 ghost use Rattle.sheet.specs.Skip.{skip_item, skip_pair, skip_list, skip_field, skip_fields, skip_node};
@@ -16,7 +17,8 @@ fn fits(base: usize, n: usize, len: usize) -> bool
     base <= len && n <= len - base
 }
 
-// A line's first word: its length, which the text must hold behind the lines before.
+// A line's first word: its length, which the text must hold behind the lines before. No LineForm yet: this word says how
+// long the line is.
 #[tactic(auto, unfolding(sheet::specs::Form::line_head))]
 pub fn line_head(sheet: &[u32], text: &[u16], base: usize, at: usize) -> Walk
     ensures { result ≡ line_head sheet.now text.now base at }
@@ -29,7 +31,7 @@ pub fn line_head(sheet: &[u32], text: &[u16], base: usize, at: usize) -> Walk
     }
 }
 
-// Behind the last line no word and no unit may be left.
+// Behind the last line no word and no unit may be left. There is no line any more, so no LineForm.
 #[tactic(auto, unfolding(sheet::specs::Form::end_form))]
 pub fn end_form(sheet: &[u32], text: &[u16], base: usize, at: usize) -> Walk
     ensures { result ≡ end_form sheet.now text.now base at }
@@ -44,7 +46,7 @@ pub fn end_form(sheet: &[u32], text: &[u16], base: usize, at: usize) -> Walk
 }
 
 #[cycle(skip_cycle)]
-#[tactic(auto, using(sheet::proofs::Cases::keyboard_number, sheet::proofs::Cases::prompt_number), unfolding(sheet::specs::Skip::skip_item))]
+#[tactic(auto, unfolding(sheet::specs::Skip::skip_item), using(sheet::proofs::Cases::keyboard_number, sheet::proofs::Cases::prompt_number, crate::proofs::Skips::file_two, crate::proofs::Skips::over_file, crate::proofs::Steps::to_next))]
 pub fn skip_source(sheet: &[u32], left: usize, at: usize) -> usize
     ensures { result ≡ skip_item sheet.now (skip_node sheet.now left) Item.Source at }
 {
@@ -57,7 +59,7 @@ pub fn skip_source(sheet: &[u32], left: usize, at: usize) -> usize
 }
 
 #[cycle(skip_cycle)]
-#[tactic(auto, using(sheet::proofs::Cases::value_number), unfolding(sheet::specs::Skip::skip_item))]
+#[tactic(auto, unfolding(sheet::specs::Skip::skip_item), using(sheet::proofs::Cases::value_number, sheet::proofs::Cases::mark_number, crate::proofs::Skips::over_mark, crate::proofs::Steps::to_next))]
 fn skip_element(sheet: &[u32], left: usize, at: usize) -> usize
     ensures { result ≡ skip_item sheet.now (skip_node sheet.now left) Item.Element at }
 {
@@ -91,22 +93,22 @@ fn skip_item(sheet: &[u32], left: usize, item: Item, at: usize) -> usize
 }
 
 #[cycle(skip_cycle)]
-#[tactic(auto, unfolding(sheet::specs::Skip::skip_pair))]
-fn skip_pair(sheet: &[u32], left: usize, a: Item, b: Item, at: usize) -> usize
-    ensures { result ≡ skip_pair sheet.now (skip_node sheet.now left) a b at }
+#[tactic(auto, unfolding(sheet::specs::Skip::skip_pair), using(crate::proofs::Skips::item_skips, crate::proofs::Skips::node_skips))]
+fn skip_pair(sheet: &[u32], left: usize, f: Field, at: usize) -> usize
+    ensures { result ≡ skip_pair sheet.now (skip_node sheet.now left) f.first f.second at }
 {
-    let p = skip_item(sheet, left, a, at);
-    skip_item(sheet, left, b, p)
+    let p = skip_item(sheet, left, f.first, at);
+    skip_item(sheet, left, f.second, p)
 }
 
 #[cycle(skip_cycle)]
-#[tactic(auto, unfolding(sheet::specs::Skip::skip_list, sheet::specs::Skip::skip_repeat))]
-fn skip_list(sheet: &[u32], left: usize, a: Item, b: Item, at: usize) -> usize
-    ensures { result ≡ skip_list sheet.now (skip_pair sheet.now (skip_node sheet.now left) a b) at }
+#[tactic(auto, unfolding(sheet::specs::Skip::skip_list, sheet::specs::Skip::skip_repeat), using(crate::proofs::Steps::to_next))]
+fn skip_list(sheet: &[u32], left: usize, f: Field, at: usize) -> usize
+    ensures { result ≡ skip_list sheet.now (skip_pair sheet.now (skip_node sheet.now left) f.first f.second) at }
 {
     let mut p = behind(sheet, at);
     for _ in 0..payload_at(sheet, at) {
-        p = skip_pair(sheet, left, a, b, p);
+        p = skip_pair(sheet, left, f, p);
     }
     p
 }
@@ -118,10 +120,8 @@ fn skip_field(sheet: &[u32], left: usize, f: Field, at: usize) -> usize
 {
     match f.times {
         Times::Optional | Times::OptionalList if is_absent(sheet, at) => behind(sheet, at),
-        Times::Once | Times::Optional => skip_pair(sheet, left, f.first, f.second, at),
-        Times::List | Times::NonEmpty | Times::OptionalList => {
-            skip_list(sheet, left, f.first, f.second, at)
-        }
+        Times::Once | Times::Optional => skip_pair(sheet, left, f, at),
+        Times::List | Times::NonEmpty | Times::OptionalList => skip_list(sheet, left, f, at),
     }
 }
 
@@ -139,7 +139,7 @@ fn skip_fields(sheet: &[u32], left: usize, fields: &[Field], at: usize) -> usize
 
 // The place behind a statement or an expression, found by reading its own children.
 #[cycle(skip_cycle)]
-#[tactic(auto, unfolding(sheet::specs::Skip::skip_node))]
+#[tactic(auto, unfolding(sheet::specs::Skip::skip_node), using(crate::proofs::Skips::node_end, crate::proofs::Cycle::next_inside, crate::proofs::Steps::to_next))]
 pub fn skip_node(sheet: &[u32], left: usize, c: Sort, at: usize) -> usize
     ensures { result ≡ skip_node sheet.now left c at }
 {

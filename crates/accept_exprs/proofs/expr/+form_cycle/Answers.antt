@@ -1,4 +1,5 @@
-use Rattle.std.proofs.Common.{◌≡◌, ◌+◌, ◌-◌, ◌≤◌, ◌∙◌, sym, arith, rules}
+use Rattle.std.proofs.Common.{◌≡◌, ◌-◌, ◌≤◌, ◌∙◌, sym, arith, rules}
+use Rattle.std.proofs.Math.Nat.{sub-add-eq}
 use Rattle.sheet.specs.declared.form.Item.TheVariants.{Nothing}
 use Rattle.sheet.specs.declared.form.Sort.TheVariants.{Expr}
 use Rattle.sheet.specs.Table.{expr}
@@ -16,10 +17,9 @@ exprs_form-expr_form-requires t c = omega (arith, c.decreases, c.loop.invariant.
 pub exprs_form-loop-preserved : goal.exprs_form-loop-preserved
 exprs_form-loop-preserved t c =
     let h : c.loop.p ≤ c.in_ok-p-2.p = later c.args.form.now.sheet.now _ _ _ _ (node_ends c.args.form.now.sheet.now c.args.form.now.text.now c.args.form.now.line c.args.left Expr c.loop.p) c.expr_form.ensures c.in_ok-p-2.was in
-    let e : c.payload_at-end.result - (c.loop.counter + 1) ≡ c.payload_at-end.result - c.loop.counter - 1 = omega arith in
     record {
       later = omega (arith, h, c.loop.invariant.later);
-      same = rw e (repeat_step c.args.form.now.sheet.now c.args.form.now.text.now c.args.form.now.line (pair_in c.args.form.now c.args.left expr Nothing) _ _ _ _ _ (omega (arith, c.loop-test.true)) (c.expr_form.ensures ∙ sym (alone c.args.form.now.sheet.now c.args.form.now.text.now c.args.form.now.line (node_in c.args.form.now c.args.left) Expr c.loop.p)) c.in_ok-p-2.was c.loop.invariant.same);
+      same = rw sub-add-eq (repeat_step c.args.form.now.sheet.now c.args.form.now.text.now c.args.form.now.line (pair_in c.args.form.now c.args.left expr Nothing) _ _ _ _ _ (omega (arith, c.loop-test.true)) (c.expr_form.ensures ∙ sym (alone c.args.form.now.sheet.now c.args.form.now.text.now c.args.form.now.line (node_in c.args.form.now c.args.left) Expr c.loop.p)) c.in_ok-p-2.was c.loop.invariant.same);
     }
 
 pub exprs_form-returns-in_err-p-2 : goal.exprs_form-returns-in_err-p-2

@@ -1,4 +1,5 @@
-use Rattle.std.proofs.Common.{◌≡◌, ◌+◌, ◌-◌, ◌≤◌, arith}
+use Rattle.std.proofs.Common.{◌≤◌, arith}
+use Rattle.std.proofs.Math.Nat.{sub-add-eq}
 use Rattle.sheet.specs.declared.form.Sort.TheVariants.{Expr, Stmt}
 use Rattle.walk.proofs.Cycle.{later, head_moves, repeat_step}
 use Rattle.walk.proofs.Steps.{word_ends, range_ends, node_ends, list_ends}
@@ -26,8 +27,7 @@ stmts_form-stmt_form-requires t c = omega (arith, c.decreases, c.loop.invariant.
 pub stmts_form-loop-preserved : goal.stmts_form-loop-preserved
 stmts_form-loop-preserved t c =
     let h : c.loop.p ≤ c.in_ok-p-2.p = later c.args.form.now.sheet.now _ _ _ _ (node_ends c.args.form.now.sheet.now c.args.form.now.text.now c.args.form.now.line c.args.left Stmt c.loop.p) c.stmt_form.ensures c.in_ok-p-2.was in
-    let e : c.payload_at-end.result - (c.loop.counter + 1) ≡ c.payload_at-end.result - c.loop.counter - 1 = omega arith in
     record {
       later = omega (arith, h, c.loop.invariant.later);
-      same = rw e (repeat_step c.args.form.now.sheet.now c.args.form.now.text.now c.args.form.now.line (node_in c.args.form.now c.args.left Stmt) _ _ _ _ _ (omega (arith, c.loop-test.true)) c.stmt_form.ensures c.in_ok-p-2.was c.loop.invariant.same);
+      same = rw sub-add-eq (repeat_step c.args.form.now.sheet.now c.args.form.now.text.now c.args.form.now.line (node_in c.args.form.now c.args.left Stmt) _ _ _ _ _ (omega (arith, c.loop-test.true)) c.stmt_form.ensures c.in_ok-p-2.was c.loop.invariant.same);
     }

@@ -1,19 +1,6 @@
-use Rattle.std.proofs.Common.{◌≡◌, ◌+◌, ◌-◌, ◌∙◌, arith}
-use borrow.Author.Rules.{rules}
 use Rattle.sheet.proofs.Cases.{expr_number}
-use Rattle.expressions.proofs.ExprLaws.{head, at_zero, at_var, at_text, at_number, at_func, at_user, at_binary, at_unary, at_index, at_inkey, at_other, step_place, step_args, none_left}
+use Rattle.expressions.proofs.ExprLaws.{head, at_var, at_text, at_number, at_func, at_user, at_binary, at_unary, at_index, at_inkey, at_other}
 use Rattle.expressions.proofs.expr.+expr_cycle.Goals as goal
-
-pub compile_args-loop-i-preserved : goal.compile_args-loop-i-preserved
-compile_args-loop-i-preserved t c =
-    let e : c.args.n - (c.loop-i.i + 1) ≡ c.args.n - c.loop-i.i - 1 = omega arith in
-    (search rules, rw e (step_place _ _ _ _ _ _ _ _ _ _ (omega (arith, c.loop-i-test.true)) c.compile_expr-x.ensures.value ∙ c.loop-i.invariant.1), rw e (step_args _ _ _ _ _ _ _ c.loop-i.i _ c.args.wants _ _ _ _ _ (omega (arith, c.loop-i-test.true)) c.compile_expr-x.ensures.value c.want-w.ensures c.node_range.ensures (c.check_type.ensures.value _ _) ∙ c.loop-i.invariant.2))
-
-pub compile_args-returns-clause-value : goal.compile_args-returns-clause-value
-compile_args-returns-clause-value t c = none_left _ _ _ _ _ _ _ _ _ _ _ _ (omega (arith, c.loop-i-test.false)) c.loop-i.invariant.1 c.loop-i.invariant.2
-
-pub compile_expr-returns-then-left-eq0-clause-value : goal.compile_expr-returns-then-left-eq0-clause-value
-compile_expr-returns-then-left-eq0-clause-value t c = at_zero _ _ _ _ _ _ c.if-left-eq0.true
 
 pub compile_expr-returns-in-Ident-clause-value : goal.compile_expr-returns-in-Ident-clause-value
 compile_expr-returns-in-Ident-clause-value t c = at_var _ _ _ _ _ _ _ _ _ _ _ (head _ _ _ _ _ _ _ c.if-left-eq0.false c.payload_at-k.ensures c.node_range-r.ensures c.behind.ensures c.behind-p.ensures) (expr_number _ _ c.in-Ident.ensures) c.var_node-ty.ensures.value
@@ -28,7 +15,7 @@ pub compile_expr-returns-in-SysFuncCall-clause-value : goal.compile_expr-returns
 compile_expr-returns-in-SysFuncCall-clause-value t c = at_func _ _ _ _ _ _ _ _ _ _ _ _ _ _ _ _ _ _ _ (head _ _ _ _ _ _ _ c.if-left-eq0.false c.payload_at-k.ensures c.node_range-r.ensures c.behind.ensures c.behind-p.ensures) (expr_number _ _ c.in-SysFuncCall.ensures) c.op_at-f.ensures c.read_payload-c.ensures (c.func_notes.ensures.value _ _) c.compile_args-x.ensures.value (c.func_node-ty.ensures.value _ _)
 
 pub compile_expr-returns-in-UserFuncCall-clause-value : goal.compile_expr-returns-in-UserFuncCall-clause-value
-compile_expr-returns-in-UserFuncCall-clause-value t c = at_user _ _ _ _ _ _ _ _ c.opt_range_at-o.result _ _ _ _ _ _ _ _ _ _ (head _ _ _ _ _ _ _ c.if-left-eq0.false c.payload_at-k.ensures c.node_range-r.ensures c.behind.ensures c.behind-p.ensures) (expr_number _ _ c.in-UserFuncCall.ensures) c.opt_range_at-o.ensures c.behind-q-in-UserFuncCall.ensures c.opt_real_sym-y.ensures.value c.compile_expr-x.ensures.value c.node_range.ensures (c.check_type.ensures.value _ _) (c.user_call.ensures.value c.args.src.now.text.now c.args.src.now.base)
+compile_expr-returns-in-UserFuncCall-clause-value t c = at_user _ _ _ _ _ _ _ _ c.opt_range_at-o.result _ _ _ _ _ _ _ _ _ _ (head _ _ _ _ _ _ _ c.if-left-eq0.false c.payload_at-k.ensures c.node_range-r.ensures c.behind.ensures c.behind-p.ensures) (expr_number _ _ c.in-UserFuncCall.ensures) c.opt_range_at-o.ensures c.behind-q-in-UserFuncCall.ensures c.opt_real_sym-y.ensures.value c.compile_expr-x.ensures.value c.node_range.ensures (c.check_type.ensures.value _ _) (c.user_call.ensures.value c.args.src.now.text.now c.args.src.now.base _ c.opt_real_sym-y.ensures.told)
 
 pub compile_expr-returns-in-Binary-clause-value : goal.compile_expr-returns-in-Binary-clause-value
 compile_expr-returns-in-Binary-clause-value t c = at_binary _ _ _ _ _ _ _ _ _ _ _ _ _ _ _ _ _ _ _ _ _ _ (head _ _ _ _ _ _ _ c.if-left-eq0.false c.payload_at-k.ensures c.node_range-r.ensures c.behind.ensures c.behind-p.ensures) (expr_number _ _ c.in-Binary.ensures) c.compile_expr-x-in-Binary.ensures.value c.op_at-o.ensures c.compile_expr-y.ensures.value c.node_range-ar.ensures c.node_range-br.ensures (c.binary_node-ty.ensures.value _ _)

@@ -1,9 +1,6 @@
 use Rattle.sheet.proofs.Cases.{expr_number, expr_other}
-use Rattle.expressions.proofs.ExprLaws.{head, place_zero, place_var, place_index, place_other}
+use Rattle.expressions.proofs.ExprLaws.{head, place_var, place_index, place_other}
 use Rattle.expressions.proofs.expr.compile_lvalue.Goals as goal
-
-pub returns-then-left-eq0-clause-value : goal.returns-then-left-eq0-clause-value
-returns-then-left-eq0-clause-value c = place_zero _ _ _ _ _ _ c.if-left-eq0.true
 
 pub returns-in-Ident-clause-value : goal.returns-in-Ident-clause-value
 returns-in-Ident-clause-value c = place_var _ _ _ _ _ _ _ _ _ _ _ (head _ _ _ _ _ _ _ c.if-left-eq0.false c.payload_at-k.ensures c.node_range-r.ensures c.behind.ensures c.behind-p.ensures) (expr_number _ _ c.in-Ident.ensures) c.var_place-ty.ensures.value

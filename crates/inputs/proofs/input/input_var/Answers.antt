@@ -1,4 +1,3 @@
-use native.Mathlib.Omega.{arith}
 use Rattle.sheet.proofs.Cases.{expr_number, expr_other}
 use Rattle.expressions.proofs.ExprLaws.{head}
 use Rattle.inputs.proofs.InputLaws.{taken_zero, taken_fn, taken_place}
@@ -6,9 +5,6 @@ use Rattle.inputs.proofs.input.input_var.Goals as goal
 
 pub returns-then-left-eq0-clause-value : goal.returns-then-left-eq0-clause-value
 returns-then-left-eq0-clause-value c = taken_zero _ _ _ _ _ _ _ c.if-left-eq0.true
-
-pub overflow_sub-left : goal.overflow_sub-left
-overflow_sub-left c = omega (arith, c.if-left-eq0.false)
 
 pub returns-in-UserFuncCall-clause-value : goal.returns-in-UserFuncCall-clause-value
 returns-in-UserFuncCall-clause-value c = taken_fn _ _ _ _ _ _ _ _ _ _ _ _ (head _ _ _ _ _ _ _ c.if-left-eq0.false c.payload_at-k.ensures c.node_range-r.ensures c.behind.ensures c.behind-p.ensures) (expr_number _ _ c.in-UserFuncCall.ensures) c.fn_input.ensures.value c.skip_expr.ensures

@@ -1,14 +1,21 @@
-use Rattle.std.proofs.Common.{◌≡◌, ◌+◌, ◌-◌, arith}
-use Rattle.sheet.proofs.Walks.{tail_step, tail_bad, tail_last}
+use Rattle.std.proofs.Common.{◌≡◌, rules, tests}
+use Rattle.std.proofs.lemmas.Iterator.{YieldsList-from_slice}
+use Rattle.std.proofs.lemmas.Iterator.Search.{all_from_yields_List}
+use Rattle.std.specs.List.{list_all}
+use Rattle.sheet.specs.Form.{is_inner, name_tail}
+use Rattle.sheet.proofs.Names.{tail_last}
 use Rattle.sheet.proofs.leaf.name_tail.Goals as goal
 
-pub returns-then-not-is_inner : goal.returns-then-not-is_inner
-returns-then-not-is_inner c = tail_bad _ _ _ _ _ _ (omega (arith, c.loop-test.true)) c.unit_at.ensures c.is_inner.ensures c.if-not-is_inner.true c.loop.invariant
+pub returns-then-all : goal.returns-then-all
+returns-then-all c =
+    let a : c.all.result ≡ list_all is_inner c.in-Some.inner.now = all_from_yields_List is_inner _ _ c.all.result c.all.ensures.ran (YieldsList-from_slice c.in-Some.inner.now cc) (λ x b q k. search (rules, tests)) in
+    rw (c.in-Some.ensures.cases.0, ← tail_last c.in-Some.inner.now c.in-Some.last.now, ← a, c.if-all.true) c.is_last.ensures
 
-pub loop-preserved : goal.loop-preserved
-loop-preserved c =
-    let e : c.args.n + 1 - (c.loop.counter + 1) ≡ c.args.n + 1 - c.loop.counter - 1 = omega arith in
-    rw e (tail_step _ _ _ _ _ _ _ (omega (arith, c.loop-test.true)) c.unit_at.ensures c.is_inner.ensures c.if-not-is_inner.false c.behind-p.ensures c.loop.invariant)
+pub returns-else-all : goal.returns-else-all
+returns-else-all c =
+    let a : c.all.result ≡ list_all is_inner c.in-Some.inner.now = all_from_yields_List is_inner _ _ c.all.result c.all.ensures.ran (YieldsList-from_slice c.in-Some.inner.now cc) (λ x b q k. search (rules, tests)) in
+    rw (c.in-Some.ensures.cases.0, ← tail_last c.in-Some.inner.now c.in-Some.last.now, ← a, c.if-all.false)
 
-pub returns-else-n-eq0 : goal.returns-else-n-eq0
-returns-else-n-eq0 c = tail_last _ _ _ _ _ _ (omega (arith, c.loop-test.false)) (omega (arith, c.loop-test.false, c.if-n-eq0.false, c.loop.auto.counter, c.loop.auto.counter-end)) c.unit_at-else-n-eq0.ensures c.is_last.ensures c.loop.invariant
+pub returns-in-None : goal.returns-in-None
+unfolding name_tail
+returns-in-None c = rw c.in-None.ensures.cases

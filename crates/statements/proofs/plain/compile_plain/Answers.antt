@@ -6,9 +6,6 @@ returns-in-Rem-clause-value c h = rw c.in-Rem.is (c.compile_rem.ensures.value _ 
 pub returns-in-NoOp-clause-value : goal.returns-in-NoOp-clause-value
 returns-in-NoOp-clause-value c h = rw c.in-NoOp.is (c.compile_no_op.ensures.value _ _ _ _ _)
 
-pub returns-in-Op0-clause-value : goal.returns-in-Op0-clause-value
-returns-in-Op0-clause-value c h = rw c.in-Op0.is (c.compile_op.ensures.value _ _ _ _)
-
 pub returns-in-Run-clause-value : goal.returns-in-Run-clause-value
 returns-in-Run-clause-value c h = rw c.in-Run.is (c.compile_run.ensures.value _ _ _)
 
@@ -39,6 +36,9 @@ returns-in-Input-clause-value c h = rw c.in-Input.is (c.compile_input.ensures.va
 pub returns-in-Let-clause-value : goal.returns-in-Let-clause-value
 returns-in-Let-clause-value c h = rw c.in-Let.is (c.compile_let.ensures.value _)
 
+pub returns-in-Load-clause-value : goal.returns-in-Load-clause-value
+returns-in-Load-clause-value c h = rw c.in-Load.is (c.compile_load.ensures.value _)
+
 pub returns-in-Locate-clause-value : goal.returns-in-Locate-clause-value
 returns-in-Locate-clause-value c h = rw c.in-Locate.is (c.compile_locate.ensures.value _)
 
@@ -47,6 +47,12 @@ returns-in-Next-clause-value c h = rw c.in-Next.is (c.compile_next.ensures.value
 
 pub returns-in-On-clause-value : goal.returns-in-On-clause-value
 returns-in-On-clause-value c h = rw c.in-On.is (c.compile_on.ensures.value _)
+
+pub returns-in-Open-clause-value : goal.returns-in-Open-clause-value
+returns-in-Open-clause-value c h = rw c.in-Open.is (c.compile_open.ensures.value _)
+
+pub returns-in-Print-clause-value : goal.returns-in-Print-clause-value
+returns-in-Print-clause-value c h = rw c.in-Print.is (c.compile_print.ensures.value _)
 
 pub returns-in-Read-clause-value : goal.returns-in-Read-clause-value
 returns-in-Read-clause-value c h = rw c.in-Read.is (c.compile_read.ensures.value _)
@@ -62,3 +68,6 @@ returns-in-System-clause-value c h = rw c.in-System.is (c.compile_system.ensures
 
 pub returns-in-While-clause-value : goal.returns-in-While-clause-value
 returns-in-While-clause-value c h = rw c.in-While.is (c.compile_while.ensures.value _)
+
+pub returns-in-Write-clause-value : goal.returns-in-Write-clause-value
+returns-in-Write-clause-value c h = rw c.in-Write.is (c.compile_write.ensures.value _)

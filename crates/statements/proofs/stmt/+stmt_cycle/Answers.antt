@@ -1,7 +1,5 @@
-use borrow.Author.Rules.{rules}
-use Rattle.std.proofs.Common.{◌≡◌, ◌+◌, ◌-◌, arith}
 use Rattle.expressions.proofs.ExprLaws.{head}
-use Rattle.statements.proofs.StmtLaws.{stmt_zero, stmt_plain, stmt_if, if_then_lem, if_else_lem, more_place, more_stmts, no_more}
+use Rattle.statements.proofs.StmtLaws.{stmt_if, if_then_lem, if_else_lem}
 use Rattle.statements.proofs.stmt.+stmt_cycle.Goals as goal
 
 pub compile_if-returns-then-is_absent-clause-value : goal.compile_if-returns-then-is_absent-clause-value
@@ -10,22 +8,5 @@ compile_if-returns-then-is_absent-clause-value t c = if_then_lem _ _ _ _ _ _ _ _
 pub compile_if-returns-clause-value : goal.compile_if-returns-clause-value
 compile_if-returns-clause-value t c = if_else_lem _ _ _ _ _ _ _ _ _ _ _ _ _ _ _ _ _ _ c.if_head-h.ensures.value c.compile_stmts-p.ensures.value c.is_absent.ensures c.if-is_absent.false c.current_addr-over.ensures (c.else_head.ensures.value c.args.src.now.text.now c.args.src.now.base) c.compile_stmts-y.ensures.value (c.end_here-2.ensures.value c.args.src.now.text.now c.args.src.now.base)
 
-pub compile_stmt-returns-then-left-eq0-clause-value : goal.compile_stmt-returns-then-left-eq0-clause-value
-compile_stmt-returns-then-left-eq0-clause-value t c = stmt_zero _ _ _ _ _ _ _ _ c.node_range-r.ensures c.if-left-eq0.true c.emit.ensures.value
-
 pub compile_stmt-returns-in-If-clause-value : goal.compile_stmt-returns-in-If-clause-value
 compile_stmt-returns-in-If-clause-value t c = stmt_if _ _ _ _ _ _ _ _ _ _ _ _ (head _ _ _ _ _ _ _ c.if-left-eq0.false c.payload_at-k.ensures c.node_range-r.ensures c.behind.ensures c.behind-p.ensures) c.shape_of.ensures c.in-If.is c.compile_if.ensures.value
-
-pub compile_stmt-returns-in_default-clause-value : goal.compile_stmt-returns-in_default-clause-value
-compile_stmt-returns-in_default-clause-value t c = stmt_plain _ _ _ _ _ _ _ _ _ _ _ _ (head _ _ _ _ _ _ _ c.if-left-eq0.false c.payload_at-k.ensures c.node_range-r.ensures c.behind.ensures c.behind-p.ensures) c.shape_of.ensures c.in_default.not-If c.compile_plain.ensures.value
-
-pub compile_stmts-loop-preserved : goal.compile_stmts-loop-preserved
-compile_stmts-loop-preserved t c =
-    let e : c.read_payload-c.result.value - (c.loop.counter + 1) ≡ c.read_payload-c.result.value - c.loop.counter - 1 = omega arith in (
-      search rules,
-      rw e (more_place _ _ _ _ _ _ _ _ _ _ (omega (arith, c.loop-test.true)) c.compile_stmt-p.ensures.value c.loop.invariant.1),
-      rw e (more_stmts _ _ _ _ _ _ _ _ _ _ (omega (arith, c.loop-test.true)) c.compile_stmt-p.ensures.value c.loop.invariant.2),
-    )
-
-pub compile_stmts-returns-clause-value : goal.compile_stmts-returns-clause-value
-compile_stmts-returns-clause-value t c = no_more _ _ _ _ _ _ _ _ _ _ _ c.read_payload-c.ensures (omega (arith, c.loop-test.false)) c.loop.invariant.1 c.loop.invariant.2

@@ -1,10 +1,10 @@
-use Rattle.std.proofs.Common.{◌≡◌, ◌+◌, ◌-◌, ◌*◌}
+use Rattle.std.proofs.Common.{◌+◌, ◌*◌}
 use Rattle.recorder.specs.Mem.{mem_r}
 use Rattle.sheet.specs.declared.form.Sort.TheVariants.{Stmt as stmtSort}
-use Rattle.sheet.specs.Skip.{skip_node, skip_repeat}
+use Rattle.sheet.specs.Skip.{skip_node}
 use Rattle.sheet.specs.Tree.{stmt_at, stmts_at}
 use Rattle.rules.specs.Stmt.{compile_stmts}
-use Rattle.recorder.specs.CodeGen.{mem_of, SameLoans}
+use Rattle.expressions.proofs.Lists.{Turns}
 use Rattle.statements.proofs.stmt.+stmt_cycle.Given as goal
 
 abbrev pub decreases-compile_if : goal.decreases-compile_if
@@ -17,6 +17,8 @@ abbrev pub decreases-compile_stmts : goal.decreases-compile_stmts
 decreases-compile_stmts l = 3 * l.left + 1
 
 abbrev pub invariant-compile_stmts-loop : goal.invariant-compile_stmts-loop
-invariant-compile_stmts-loop l = (SameLoans l.initial.code l.code)
-    × (skip_repeat l.src.sheet.now (skip_node l.src.sheet.now l.left stmtSort) (l.end - l.counter) l.p ≡ skip_repeat l.src.sheet.now (skip_node l.src.sheet.now l.left stmtSort) l.end l.initial.p)
-    × (compile_stmts (mem_r l.src.text.now) l.src.text.now l.src.base (stmts_at l.src.sheet.now (stmt_at l.src.sheet.now l.left) (skip_node l.src.sheet.now l.left stmtSort) (l.end - l.counter) l.p) (mem_of l.code) ≡ compile_stmts (mem_r l.src.text.now) l.src.text.now l.src.base (stmts_at l.src.sheet.now (stmt_at l.src.sheet.now l.left) (skip_node l.src.sheet.now l.left stmtSort) l.end l.initial.p) (mem_of l.initial.code))
+invariant-compile_stmts-loop l =
+    Turns l.src.sheet.now (skip_node l.src.sheet.now l.left stmtSort)
+    (λ k q. compile_stmts (mem_r l.src.text.now) l.src.text.now l.src.base
+    (stmts_at l.src.sheet.now (stmt_at l.src.sheet.now l.left) (skip_node l.src.sheet.now l.left stmtSort) k q))
+    l.end l.counter l.initial.p l.p l.initial.code l.code

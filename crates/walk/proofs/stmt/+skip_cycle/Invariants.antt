@@ -35,5 +35,5 @@ invariant-skip_fields-loop-f l = record {
 abbrev pub invariant-skip_list-loop : goal.invariant-skip_list-loop
 invariant-skip_list-loop l = record {
   later : l.initial.p ≤ l.p;
-  same : skip_repeat l.sheet (skip_pair l.sheet (skip_node l.sheet l.left) l.a l.b) (l.end - l.counter) l.p ≡ skip_repeat l.sheet (skip_pair l.sheet (skip_node l.sheet l.left) l.a l.b) l.end l.initial.p;
+  same : skip_repeat l.sheet (skip_pair l.sheet (skip_node l.sheet l.left) l.f.first l.f.second) (l.end - l.counter) l.p ≡ skip_repeat l.sheet (skip_pair l.sheet (skip_node l.sheet l.left) l.f.first l.f.second) l.end l.initial.p;
 }
