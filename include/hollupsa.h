@@ -1,6 +1,6 @@
 /* The plot-form compiler: one function, proved to meet what is said here. Link with libhollupsa.a (tools/library makes it, for
    x86-64). It allocates nothing, keeps nothing, and always returns; it needs memset of the C library, and 64 KB of stack: the
-   deepest sheets take 12,616 bytes of it, accepted or refused (measured by tests/c/stack.c, not proved). */
+   deepest sheets take 14,648 bytes of it, accepted or refused (measured by tests/c/stack.c, not proved). */
 #ifndef HOLLUPSA_H
 #define HOLLUPSA_H
 
