@@ -1,5 +1,5 @@
 -- The numbers of the code's calls and classes.
-use Rattle.std.specs.Prelude.{ℕ, ◌+◌, Option, None, Some}
+use Rattle.std.specs.Prelude.{ℕ, Option, None, Some}
 use Rattle.recorder.specs.declared.label.Label.{Label}
 use Rattle.recorder.specs.declared.word.Range.{Range}
 use Rattle.recorder.specs.declared.call.Call.{Call}

@@ -5,7 +5,7 @@ ghost use Rattle.recorder.specs.Word.{pick, both, payload_at, word_of, range_wor
 ghost use Rattle.recorder.specs.Name.{upper, same_units, same_name};
 ghost use Rattle.recorder.specs.Layout.{rec_size, entry_size, extra_at, most_records};
 ghost use Rattle.recorder.specs.Calls.{class_number, severity_of};
-ghost use Rattle.recorder.specs.Mem.{nothing, names_in, as_word, datum_word, sigil_code, link_of, with_link, known, child_of, may_link, root_of, records_in, named_at, hash_step, hash_of, descent_to, linked_at, root_in, low, more, four, tag_of, name_tag, tagged_at, lookup, entry_of, set_a, set_c, settle_args, clear_args, rec_of, look_at, begin_line, put, put_note, note, note_at, put_entry, new_symbol, make_symbol, emit_datum, load_byte, next_byte, first_datum, current_addr, patched};
+ghost use Rattle.recorder.specs.Mem.{nothing, names_in, sigil_code, link_of, with_link, known, child_of, may_link, root_of, records_in, named_at, hash_step, hash_of, descent_to, linked_at, root_in, low, more, four, tag_of, name_tag, tagged_at, lookup, entry_of, set_a, set_c, settle_args, clear_args, rec_of, look_at, begin_line, put, put_note, note, note_at, put_entry, new_symbol, make_symbol, emit_datum, load_byte, next_byte, current_addr, patched};
 ghost use Rattle.recorder.specs.CodeGen.{mem_of, SameLoans, look_is, emit};
 
 use crate::call::{Call, Class};
@@ -663,7 +663,7 @@ impl CodeGen<'_> {
 
     // The current line's first datum.
     pub fn first_datum(&self) -> Option<DatumIndex>
-        ensures { as_word (datum_word result) ≡ first_datum (mem_of self.now) }
+        ensures { result ≡ self.now.st.first }
     {
         self.st.first
     }
