@@ -2,6 +2,7 @@
 //! order of making (so by line too), book, and zeros behind and in work.
 
 use crate::generate::{self, Sort};
+use crate::jobs;
 use crate::library::{self, Lent};
 use crate::replay;
 use crate::run::{self, Answer, Compiled, Input};
@@ -9,9 +10,7 @@ use crate::selftest::guarded;
 use std::fs;
 use std::io::{self, Write};
 use std::sync::Mutex;
-use std::sync::atomic::{AtomicBool, AtomicU64, Ordering};
-use std::thread;
-use std::time::{Duration, Instant};
+use std::sync::atomic::{AtomicU64, Ordering};
 
 /// What to run: which inputs, on how many threads, and where to write the
 /// smallest that fails.
@@ -23,9 +22,6 @@ pub struct Plan<'a> {
   pub jobs: usize,
   pub out: &'a str,
 }
-
-/// How many inputs a thread takes at a time.
-const BATCH: u64 = 64;
 
 /// A failing input and what differs.
 struct Failed {
@@ -120,51 +116,20 @@ fn in_parallel(
 ) -> io::Result<bool> {
   library::needed()?;
   let Plan { seed, count, sort, small, jobs, .. } = *plan;
-  let (next, done, over) =
-    (AtomicU64::new(0), AtomicU64::new(0), AtomicBool::new(false));
   let totals = Totals::default();
   let smallest: Mutex<Option<Failed>> = Mutex::new(None);
-  let work = || {
-    let mut lent = Lent::default();
-    loop {
-      let first = next.fetch_add(BATCH, Ordering::Relaxed);
-      if first >= count {
-        return;
-      }
-      for index in first..count.min(first + BATCH) {
-        let mut input = generate::generate(seed, index, sort, small);
-        if let Err(what) = compare(&mut input, &mut lent, &totals) {
-          totals.failed.fetch_add(1, Ordering::Relaxed);
-          keep_smallest(&smallest, Failed { index, input, what });
-        }
-        done.fetch_add(1, Ordering::Relaxed);
-      }
+  jobs::each(what, count, jobs, Lent::default, |lent, index| {
+    let mut input = generate::generate(seed, index, sort, small);
+    if let Err(what) = compare(&mut input, lent, &totals) {
+      totals.failed.fetch_add(1, Ordering::Relaxed);
+      keep_smallest(&smallest, Failed { index, input, what });
     }
-  };
-  thread::scope(|scope| {
-    let workers: Vec<_> = (0..jobs).map(|_| scope.spawn(work)).collect();
-    let (over, done) = (&over, &done);
-    scope.spawn(move || {
-      let mut last = Instant::now();
-      while !over.load(Ordering::Relaxed) {
-        thread::sleep(Duration::from_millis(50));
-        if last.elapsed() >= Duration::from_secs(2) {
-          last = Instant::now();
-          eprintln!("{what}: {} of {count}", done.load(Ordering::Relaxed));
-        }
-      }
-    });
-    for worker in workers {
-      worker.join().unwrap();
-    }
-    over.store(true, Ordering::Relaxed);
   });
   let number = |n: &AtomicU64| n.load(Ordering::Relaxed);
   let failed = number(&totals.failed);
   writeln!(
     out,
-    "{what}: seed {seed}, {} inputs, {} calls, {} accepted, {failed} inputs with differences",
-    number(&done),
+    "{what}: seed {seed}, {count} inputs, {} calls, {} accepted, {failed} inputs with differences",
     number(&totals.calls),
     number(&totals.accepted)
   )?;
@@ -292,9 +257,4 @@ pub fn tells_changes() -> Result<String, String> {
     }
   }
   Ok(format!(", {changes} changes"))
-}
-
-/// The threads that the machine can run.
-pub fn all_cores() -> usize {
-  thread::available_parallelism().map_or(1, usize::from)
 }

@@ -28,7 +28,7 @@ impl Lent {
 }
 
 #[cfg(library)]
-#[path = "../../bindings/rust/src/library.rs"]
+#[path = "../../bindings/rust/src/linked.rs"]
 mod linked;
 
 /// Compiles into what is lent.

@@ -25,10 +25,13 @@ mod crowded;
 mod damage;
 mod form;
 mod generate;
+mod jobs;
 mod labels;
 mod library;
 mod maker;
+mod mutants;
 mod pairs;
+mod parts;
 mod progress;
 mod recorder;
 mod replay;
@@ -37,6 +40,8 @@ mod run;
 mod selftest;
 mod sheet;
 mod standins;
+mod tally;
+mod texts;
 mod vm;
 
 pub mod ast {
@@ -93,11 +98,15 @@ oracle answers < FILE            each answer whole
 oracle form < FILE               refusal and place by 1 to 8 alone
 oracle text < FILE               each input for people to read
 oracle check < FILE              compare with the unchanged CodeGen
-oracle stress --seed S --count N [--small]  generate, answer, check, count
+oracle stress, as generate       generate, answer, check, count
 oracle compare --seed S --count N [--valid|--damaged|--mixed] [--small]
     [--jobs J] [--out FILE]      the proved library against the Rust
 oracle lengths, as compare       the same at every length of each buffer
 oracle recheck < FILE            the same on given inputs
+oracle texts --seed S --count N [--small] [--jobs J]
+                                 trees printed as BASIC text and read again
+oracle mutants --seed S --count N [--jobs J]
+                                 changed texts read, printed and read again
 oracle bench [FAMILY..]          times of the Rust and of the library
 oracle selftest                  the tests
 generate, crowded, labels, pairs and replay-list write the replay format,
@@ -131,7 +140,7 @@ fn command_line(command: &str, options: &[&str]) -> io::Result<bool> {
       out.write_all(replay::listing(&bytes).as_bytes())?;
     }
     "generate" => {
-      let Options { seed, count, sort, small, .. } = parse(options)?;
+      let Options { seed, count, sort, small, .. } = parse(command, options)?;
       let mut progress = Progress::new("generate", count);
       for index in 0..count {
         let input = generate::generate(seed, index, sort, small);
@@ -140,12 +149,12 @@ fn command_line(command: &str, options: &[&str]) -> io::Result<bool> {
       }
     }
     "crowded" => {
-      for input in crowded::crowded(parse(options)?.seed) {
+      for input in crowded::crowded(parse(command, options)?.seed) {
         replay::write_input(&mut out, &input)?;
       }
     }
     "labels" => {
-      let Options { seed, count, .. } = parse(options)?;
+      let Options { seed, count, .. } = parse(command, options)?;
       let mut progress = Progress::new(command, count);
       for index in 0..count {
         replay::write_input(&mut out, &labels::labels(seed, index))?;
@@ -177,14 +186,16 @@ fn command_line(command: &str, options: &[&str]) -> io::Result<bool> {
       writeln!(out, "{counts}")?;
     }
     "bench" => return bench::bench(&mut out, options),
-    "compare" => return compare::compare(&mut out, &parse(options)?),
+    "compare" => return compare::compare(&mut out, &parse(command, options)?),
     "recheck" => {
       let inputs = Inputs(BufReader::new(io::stdin().lock()));
       return compare::recheck(&mut out, inputs);
     }
-    "lengths" => return compare::lengths(&mut out, &parse(options)?),
+    "texts" => return texts::texts(&mut out, &parse(command, options)?),
+    "mutants" => return mutants::mutants(&mut out, &parse(command, options)?),
+    "lengths" => return compare::lengths(&mut out, &parse(command, options)?),
     "stress" => {
-      let Options { seed, count, sort, small, .. } = parse(options)?;
+      let Options { seed, count, sort, small, .. } = parse(command, options)?;
       return selftest::stress(&mut out, seed, count, sort, small);
     }
     "selftest" => return selftest::selftest(&mut out),
@@ -210,15 +221,28 @@ fn each(
   Ok(())
 }
 
-fn parse<'a>(options: &[&'a str]) -> io::Result<Options<'a>> {
+/// The options that a command takes.
+fn options_of(command: &str) -> &'static str {
+  match command {
+    "crowded" => "--seed",
+    "labels" => "--seed --count",
+    "mutants" => "--seed --count --jobs",
+    "texts" => "--seed --count --jobs --small",
+    "generate" | "stress" => "--seed --count --small --valid --damaged --mixed",
+    _ => "--seed --count --jobs --small --valid --damaged --mixed --out",
+  }
+}
+
+fn parse<'a>(command: &str, options: &[&'a str]) -> io::Result<Options<'a>> {
   let mut parsed = Options {
     seed: 1,
     count: 100,
     sort: Sort::Mixed,
     small: false,
-    jobs: compare::all_cores(),
+    jobs: jobs::all_cores(),
     out: "failing.replay",
   };
+  let taken = options_of(command);
   let mut options = options.iter();
   while let Some(option) = options.next() {
     let mut number = || {
@@ -227,6 +251,10 @@ fn parse<'a>(options: &[&'a str]) -> io::Result<Options<'a>> {
         .and_then(|n| n.parse().ok())
         .ok_or_else(|| io::Error::other(format!("{option} wants a number")))
     };
+    if !taken.split(' ').any(|taken| taken == *option) {
+      let refused = format!("{command} takes {taken}, and no {option}");
+      return Err(io::Error::other(refused));
+    }
     match *option {
       "--seed" => parsed.seed = number()?,
       "--count" => parsed.count = number()?,
@@ -239,7 +267,7 @@ fn parse<'a>(options: &[&'a str]) -> io::Result<Options<'a>> {
         let wanted = || io::Error::other("--out wants a file");
         parsed.out = options.next().copied().ok_or_else(wanted)?;
       }
-      _ => return Err(io::Error::other(format!("unknown option {option}"))),
+      _ => unreachable!("options_of names no other"),
     }
   }
   Ok(parsed)

@@ -8,6 +8,7 @@ use crate::form;
 use crate::generate::{self, Sort};
 use crate::labels;
 use crate::maker::{decimal, value};
+use crate::mutants;
 use crate::pairs;
 use crate::progress::Progress;
 use crate::recorder::{self, Recorder};
@@ -16,6 +17,7 @@ use crate::rng::Rng;
 use crate::run::{self, Answer, Input};
 use crate::sheet;
 use crate::standins;
+use crate::texts;
 use std::collections::{BTreeMap, BTreeSet};
 use std::fmt::{self, Display, Formatter};
 use std::io::{self, Write};
@@ -25,7 +27,8 @@ include!(concat!(env!("OUT_DIR"), "/texts.rs"));
 
 pub fn selftest(out: &mut impl Write) -> io::Result<bool> {
   type Test = fn() -> Result<String, String>;
-  let tests: [(&str, Test); 18] = [
+  let tests: [(&str, Test); 21] = [
+    ("options that a command does not take are refused", options),
     ("tables follow the enums of stmt.rs and expr.rs", tables),
     ("the worked example", worked_example),
     ("the pairs to run", pairs_to_run),
@@ -44,6 +47,8 @@ pub fn selftest(out: &mut impl Write) -> io::Result<bool> {
     ("sheets crowded with labels", crowded_labels),
     ("the replay list covers all", replay_list),
     ("the comparison tells every change", compare::tells_changes),
+    ("trees printed as text and read again", texts::some),
+    ("changed texts read, printed and read again", mutants::some),
   ];
   let mut failed = 0;
   for (name, test) in tests {
@@ -100,6 +105,29 @@ fn cases(source: &str, name: &str) -> Vec<String> {
 fn case_name(node: &impl fmt::Debug) -> String {
   let text = format!("{node:?}");
   text.split(|c: char| !c.is_alphanumeric()).next().unwrap().to_string()
+}
+
+fn options() -> Result<String, String> {
+  let taken = crate::parse("texts", &["--seed", "3", "--small"]);
+  let taken = taken.map_err(|error| error.to_string())?;
+  same((taken.seed, taken.small), (3, true))?;
+  let refused = [
+    ("texts", ["--valid", "--damaged", "--mixed", "--out"]),
+    ("mutants", ["--valid", "--small", "--out", "--unknown"]),
+    ("crowded", ["--count", "--small", "--jobs", "--out"]),
+  ];
+  for (command, options) in refused {
+    for option in options {
+      let said = match crate::parse(command, &[option]) {
+        Ok(_) => "taken".to_string(),
+        Err(error) => error.to_string(),
+      };
+      if !said.ends_with(&format!("and no {option}")) {
+        return Err(format!("{command} {option}: {said}"));
+      }
+    }
+  }
+  Ok(String::new())
 }
 
 fn tables() -> Result<String, String> {

@@ -3,14 +3,15 @@
 //! that the compiler refuses.
 
 use crate::tree::*;
+use crate::word::*;
 
 impl Program {
   /// The sheet of this tree.
   pub fn encode(&self) -> Vec<u32> {
     let mut sheet = Sheet(vec![]);
-    sheet.put(0x0f, self.lines.len());
+    sheet.put(PROGRAM, self.lines.len());
     for line in &self.lines {
-      sheet.put(0x10, line.len);
+      sheet.put(LINE, line.len);
       sheet.label(&line.label);
       sheet.stmts(&line.stmts);
     }
@@ -21,20 +22,16 @@ impl Program {
 struct Sheet(Vec<u32>);
 
 impl Sheet {
-  /// No kind takes the greatest payload, but for counts.
   fn put(&mut self, kind: u32, payload: usize) {
-    self.0.push((kind << 24) + payload.min(0xff_ffff) as u32);
+    self.0.push(word(kind, payload));
   }
 
   fn range(&mut self, range: &Range) {
-    let Range { start, end } = *range;
-    // One that does not fit is written as 1 to 0, which lies in no line.
-    let fits = start <= 0xfff && end <= 0xfff;
-    self.put(0x01, if fits { start * 4096 + end } else { 4096 });
+    self.0.push(range_word(range));
   }
 
   fn absent(&mut self) {
-    self.put(0x02, 0);
+    self.put(ABSENT, 0);
   }
 
   fn range_option(&mut self, range: &Option<Range>) {
@@ -48,18 +45,18 @@ impl Sheet {
     match label {
       Some((range, label)) => {
         self.range(range);
-        self.put(0x03, *label as usize);
+        self.put(LABEL, *label as usize);
       }
       None => self.absent(),
     }
   }
 
   fn count(&mut self, count: usize) {
-    self.put(0x04, count);
+    self.put(COUNT, count);
   }
 
   fn yes_no(&mut self, yes: bool) {
-    self.put(0x05, yes as usize);
+    self.put(YES_NO, yes as usize);
   }
 
   fn stmts(&mut self, stmts: &[Stmt]) {
@@ -90,16 +87,11 @@ impl Sheet {
 
   fn stmt(&mut self, stmt: &Stmt) {
     use StmtKind::*;
-    self.put(0x20, case(&stmt.kind));
+    self.put(STMT, stmt.kind.case());
     self.range(&stmt.range);
     match &stmt.kind {
-      Auto(r) | Copy(r) | Del(r) | Edit(r) | Files(r) | Kill(r) | List(r)
-      | New(r) | Rem(r) | Rename(r) | Run(r) | Save(r) | Stop(r) => {
-        self.range(r)
-      }
-      Beep | Clear | Cls | Cont | End | Flash | Graph | InKey | Inverse
-      | Normal | NoTrace | Pop | Return | System | Text | Trace | Wend
-      | NoOp => {}
+      word_alone!() | NoOp => {}
+      remark!(text) | Run(text) => self.range(text),
       Box(args) | Circle(args) | Dim(args) | Draw(args) | Ellipse(args)
       | Line(args) | Load(args) | Paint(args) | Read(args) => self.exprs(args),
       Call(arg) | Close(arg) | Play(arg) | While(arg) | Sleep(arg)
@@ -156,13 +148,13 @@ impl Sheet {
       }
       Input { source, vars } => {
         match source {
-          InputSource::Keyboard => self.put(0x07, 0),
+          InputSource::Keyboard => self.put(INPUT_SOURCE, 0),
           InputSource::Prompt(prompt) => {
-            self.put(0x07, 1);
+            self.put(INPUT_SOURCE, 1);
             self.range(prompt);
           }
           InputSource::File(filenum) => {
-            self.put(0x07, 2);
+            self.put(INPUT_SOURCE, 2);
             self.expr(filenum);
           }
         }
@@ -184,7 +176,7 @@ impl Sheet {
         for (range, label) in labels {
           self.range(range);
           match label {
-            Some(label) => self.put(0x03, *label as usize),
+            Some(label) => self.put(LABEL, *label as usize),
             None => self.absent(),
           }
         }
@@ -192,7 +184,7 @@ impl Sheet {
       }
       Open { filename, mode, filenum, len } => {
         self.expr(filename);
-        self.put(0x06, *mode as usize);
+        self.put(FILE_MODE, *mode as usize);
         self.expr(filenum);
         match len {
           Some((range, len)) => {
@@ -222,146 +214,157 @@ impl Sheet {
   fn element(&mut self, element: &PrintElement) {
     match element {
       PrintElement::Expr(expr) => {
-        self.put(0x08, 0);
+        self.put(PRINT_ELEMENT, 0);
         self.expr(expr);
       }
       PrintElement::Comma(range) => {
-        self.put(0x08, 1);
+        self.put(PRINT_ELEMENT, 1);
         self.range(range);
       }
       PrintElement::Semicolon(range) => {
-        self.put(0x08, 2);
+        self.put(PRINT_ELEMENT, 2);
         self.range(range);
       }
     }
   }
 
-  fn head(&mut self, case: usize, range: &Range) {
-    self.put(0x21, case);
-    self.range(range);
-  }
-
   fn expr(&mut self, expr: &Expr) {
-    let range = &expr.range;
+    self.put(EXPR, expr.kind.case());
+    self.range(&expr.range);
     match &expr.kind {
-      ExprKind::Ident => self.head(0, range),
-      ExprKind::StringLit => self.head(1, range),
+      ExprKind::Ident
+      | ExprKind::StringLit
+      | ExprKind::Inkey
+      | ExprKind::Error => {}
       ExprKind::NumberLit(number) => {
-        self.head(2, range);
-        self.put(0x0a, number.e as usize);
-        self.put(0x0b, (number.m >> 16) as usize);
-        self.put(0x0b, (number.m & 0xffff) as usize);
+        self.put(EXPONENT, number.e as usize);
+        self.put(MANTISSA, (number.m >> 16) as usize);
+        self.put(MANTISSA, (number.m & 0xffff) as usize);
       }
       ExprKind::SysFuncCall { func, args } => {
-        self.head(3, range);
         self.range(&func.0);
-        self.put(0x09, func.1 as usize);
+        self.put(PLACE, func.1 as usize);
         self.exprs(args);
       }
       ExprKind::UserFuncCall { func, arg } => {
-        self.head(4, range);
         self.range_option(func);
         self.expr(arg);
       }
       ExprKind::Binary { lhs, op, rhs } => {
-        self.head(5, range);
         self.expr(lhs);
         self.range(&op.0);
-        self.put(0x09, op.1 as usize);
+        self.put(PLACE, op.1 as usize);
         self.expr(rhs);
       }
       ExprKind::Unary { op, arg } => {
-        self.head(6, range);
         self.range(&op.0);
-        self.put(0x09, op.1 as usize);
+        self.put(PLACE, op.1 as usize);
         self.expr(arg);
       }
       ExprKind::Index { name, indices } => {
-        self.head(7, range);
         self.range_option(name);
         self.exprs(indices);
       }
-      ExprKind::Inkey => self.head(8, range),
-      ExprKind::Error => self.head(9, range),
     }
   }
 }
 
-/// The place of a statement's case.
-fn case(kind: &StmtKind) -> usize {
-  use StmtKind::*;
-  match kind {
-    Auto(_) => 0,
-    Beep => 1,
-    Box(_) => 2,
-    Call(_) => 3,
-    Circle(_) => 4,
-    Clear => 5,
-    Close(_) => 6,
-    Cls => 7,
-    Cont => 8,
-    Copy(_) => 9,
-    Data(_) => 10,
-    Def { .. } => 11,
-    Del(_) => 12,
-    Dim(_) => 13,
-    Draw(_) => 14,
-    Edit(_) => 15,
-    Ellipse(_) => 16,
-    End => 17,
-    Field { .. } => 18,
-    Files(_) => 19,
-    Flash => 20,
-    For { .. } => 21,
-    Get { .. } => 22,
-    GoSub(_) => 23,
-    GoTo { .. } => 24,
-    Graph => 25,
-    If { .. } => 26,
-    InKey => 27,
-    Input { .. } => 28,
-    Inverse => 29,
-    Kill(_) => 30,
-    Let { .. } => 31,
-    Line(_) => 32,
-    List(_) => 33,
-    Load(_) => 34,
-    Locate { .. } => 35,
-    LSet { .. } => 36,
-    New(_) => 37,
-    Next(_) => 38,
-    Normal => 39,
-    NoTrace => 40,
-    On { .. } => 41,
-    Open { .. } => 42,
-    Paint(_) => 43,
-    Play(_) => 44,
-    Poke { .. } => 45,
-    Pop => 46,
-    Print(_) => 47,
-    Put { .. } => 48,
-    Read(_) => 49,
-    Rem(_) => 50,
-    Rename(_) => 51,
-    Restore(_) => 52,
-    Return => 53,
-    RSet { .. } => 54,
-    Run(_) => 55,
-    Save(_) => 56,
-    Stop(_) => 57,
-    Swap { .. } => 58,
-    System => 59,
-    Text => 60,
-    Trace => 61,
-    Wend => 62,
-    While(_) => 63,
-    Write { .. } => 64,
-    Sleep(_) => 65,
-    Fputc { .. } => 66,
-    Fread { .. } => 67,
-    Fwrite { .. } => 68,
-    Fseek { .. } => 69,
-    DebugPrint(_) => 70,
-    NoOp => 71,
+impl StmtKind {
+  /// The place of the case among the cases of stmt.rs, from 0.
+  pub fn case(&self) -> usize {
+    use StmtKind::*;
+    match self {
+      Auto(_) => 0,
+      Beep => 1,
+      Box(_) => 2,
+      Call(_) => 3,
+      Circle(_) => 4,
+      Clear => 5,
+      Close(_) => 6,
+      Cls => 7,
+      Cont => 8,
+      Copy(_) => 9,
+      Data(_) => 10,
+      Def { .. } => 11,
+      Del(_) => 12,
+      Dim(_) => 13,
+      Draw(_) => 14,
+      Edit(_) => 15,
+      Ellipse(_) => 16,
+      End => 17,
+      Field { .. } => 18,
+      Files(_) => 19,
+      Flash => 20,
+      For { .. } => 21,
+      Get { .. } => 22,
+      GoSub(_) => 23,
+      GoTo { .. } => 24,
+      Graph => 25,
+      If { .. } => 26,
+      InKey => 27,
+      Input { .. } => 28,
+      Inverse => 29,
+      Kill(_) => 30,
+      Let { .. } => 31,
+      Line(_) => 32,
+      List(_) => 33,
+      Load(_) => 34,
+      Locate { .. } => 35,
+      LSet { .. } => 36,
+      New(_) => 37,
+      Next(_) => 38,
+      Normal => 39,
+      NoTrace => 40,
+      On { .. } => 41,
+      Open { .. } => 42,
+      Paint(_) => 43,
+      Play(_) => 44,
+      Poke { .. } => 45,
+      Pop => 46,
+      Print(_) => 47,
+      Put { .. } => 48,
+      Read(_) => 49,
+      Rem(_) => 50,
+      Rename(_) => 51,
+      Restore(_) => 52,
+      Return => 53,
+      RSet { .. } => 54,
+      Run(_) => 55,
+      Save(_) => 56,
+      Stop(_) => 57,
+      Swap { .. } => 58,
+      System => 59,
+      Text => 60,
+      Trace => 61,
+      Wend => 62,
+      While(_) => 63,
+      Write { .. } => 64,
+      Sleep(_) => 65,
+      Fputc { .. } => 66,
+      Fread { .. } => 67,
+      Fwrite { .. } => 68,
+      Fseek { .. } => 69,
+      DebugPrint(_) => 70,
+      NoOp => 71,
+    }
+  }
+}
+
+impl ExprKind {
+  /// The place of the case among the cases of expr.rs, from 0.
+  pub fn case(&self) -> usize {
+    use ExprKind::*;
+    match self {
+      Ident => 0,
+      StringLit => 1,
+      NumberLit(_) => 2,
+      SysFuncCall { .. } => 3,
+      UserFuncCall { .. } => 4,
+      Binary { .. } => 5,
+      Unary { .. } => 6,
+      Index { .. } => 7,
+      Inkey => 8,
+      Error => 9,
+    }
   }
 }

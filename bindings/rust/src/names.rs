@@ -1,7 +1,11 @@
 //! A listing for people: calls by name, variables and literals from the text,
 //! notes in words with the line's text and the range marked under it.
 
-use crate::tree::{Number, Range};
+use crate::built::LONGEST_LINE;
+use crate::display::{Marked, clean, marked};
+use crate::spelling::{FUNCTIONS, MODES, OPERATORS, PREFIXES, STATEMENTS};
+use crate::tree::{Number, Range, pieces};
+use crate::word;
 use crate::{Compiled, Entry, EntryKind, Record};
 use std::fmt::Write;
 
@@ -56,99 +60,11 @@ const CALLS: [&str; 47] = [
   "drop text",
 ];
 
-const STATEMENTS: [&str; 72] = [
-  "AUTO",
-  "BEEP",
-  "BOX",
-  "CALL",
-  "CIRCLE",
-  "CLEAR",
-  "CLOSE",
-  "CLS",
-  "CONT",
-  "COPY",
-  "DATA",
-  "DEF",
-  "DEL",
-  "DIM",
-  "DRAW",
-  "EDIT",
-  "ELLIPSE",
-  "END",
-  "FIELD",
-  "FILES",
-  "FLASH",
-  "FOR",
-  "GET",
-  "GOSUB",
-  "GOTO",
-  "GRAPH",
-  "IF",
-  "INKEY$",
-  "INPUT",
-  "INVERSE",
-  "KILL",
-  "LET",
-  "LINE",
-  "LIST",
-  "LOAD",
-  "LOCATE",
-  "LSET",
-  "NEW",
-  "NEXT",
-  "NORMAL",
-  "NOTRACE",
-  "ON",
-  "OPEN",
-  "PAINT",
-  "PLAY",
-  "POKE",
-  "POP",
-  "PRINT",
-  "PUT",
-  "READ",
-  "REM",
-  "RENAME",
-  "RESTORE",
-  "RETURN",
-  "RSET",
-  "RUN",
-  "SAVE",
-  "STOP",
-  "SWAP",
-  "SYSTEM",
-  "TEXT",
-  "TRACE",
-  "WEND",
-  "WHILE",
-  "WRITE",
-  "SLEEP",
-  "FPUTC",
-  "FREAD",
-  "FWRITE",
-  "FSEEK",
-  "DEBUGPRINT",
-  "NO-OP",
-];
-
-const FUNCTIONS: [&str; 34] = [
-  "ABS", "ASC", "ATN", "CHR$", "COS", "CVI$", "CVS$", "EOF", "EXP", "INT",
-  "LEFT$", "LEN", "LOF", "LOG", "MID$", "MKI$", "MKS$", "PEEK", "POS",
-  "RIGHT$", "RND", "SGN", "SIN", "SQR", "STR$", "TAN", "VAL", "TAB", "SPC",
-  "POINT", "CHECKKEY", "FOPEN", "FGETC", "FTELL",
-];
-
-const OPERATORS: [&str; 13] =
-  ["=", "<>", ">", "<", ">=", "<=", "+", "-", "*", "/", "^", "AND", "OR"];
-
-const PREFIXES: [&str; 3] = ["NOT", "-", "+"];
-
-const MODES: [&str; 6] =
-  ["missing", "RANDOM", "INPUT", "OUTPUT", "APPEND", "BINARY"];
-
-/// The readable listing of what a sheet's text was compiled to.
-pub fn listing(sheet: &[u32], text: &[u16], compiled: &Compiled) -> String {
-  let lines = line_texts(sheet, text);
+/// The readable listing of what a text was compiled to; `lines` are the lengths
+/// of its lines in units.
+pub fn listing(lines: &[usize], text: &[u16], compiled: &Compiled) -> String {
+  let lines: Vec<String> =
+    pieces(text, lines.iter().copied()).map(String::from_utf16_lossy).collect();
   let (mut names, mut data) = (vec![], vec![]);
   for entry in compiled.entries() {
     match entry.kind {
@@ -163,10 +79,10 @@ pub fn listing(sheet: &[u32], text: &[u16], compiled: &Compiled) -> String {
   let mut shown = 0;
   for (at, record) in compiled.records().enumerate() {
     while shown <= record.line && shown < lines.len() {
-      writeln!(out, "{}", lines[shown].trim_end()).unwrap();
+      writeln!(out, "{}", clean(lines[shown].trim_end())).unwrap();
       shown += 1;
     }
-    let call = CALLS[record.call as usize - 1];
+    let call = called(&record);
     let line = lines.get(record.line).map_or("", String::as_str);
     let row = format!("{at:6}  {call}{}", book.arguments(&record, line));
     writeln!(out, "{}", row.trim_end()).unwrap();
@@ -174,14 +90,9 @@ pub fn listing(sheet: &[u32], text: &[u16], compiled: &Compiled) -> String {
   for note in compiled.notes() {
     let line = lines.get(note.line).map_or("", |line| line.trim_end());
     let kind = if note.warning { "warning" } else { "error" };
-    let before: String = line
-      .chars()
-      .take(note.range.start)
-      .map(|c| if c == '\t' { c } else { ' ' })
-      .collect();
-    let mark =
-      "^".repeat((note.range.end.saturating_sub(note.range.start)).max(1));
-    writeln!(out, "{kind}: {note}\n  {line}\n  {before}{mark}").unwrap();
+    let Marked { line, carets } = marked(line, note.range, usize::MAX);
+    let class = note.class;
+    writeln!(out, "{kind}[{class}]: {note}\n  {line}\n  {carets}").unwrap();
   }
   out
 }
@@ -203,16 +114,16 @@ impl Book<'_> {
       _ => address.to_string(),
     };
     match record.call {
-      2 if b == 0 => format!(" {}", STATEMENTS[a as usize]),
-      2 => format!(" {}, {}", STATEMENTS[a as usize], many(b, "operand")),
+      2 if b == 0 => format!(" {}", statement(a)),
+      2 => format!(" {}, {}", statement(a), many(b, "operand")),
       3 => format!(" {}", literal(record, line)),
       4 => format!(" \"{}\"", piece(self.text, a as usize, b as usize)),
       5 | 7 | 12 => format!(" {}", name(a)),
       6 | 8 | 28 => format!(" {}, {}", name(a), many(b, "subscript")),
       9 => format!(" {}({})", name(a), name(b)),
-      11 => format!(" {}, {}", FUNCTIONS[a as usize], many(b, "argument")),
-      13 => format!(" {}", PREFIXES[a as usize]),
-      14 | 15 => format!(" {}", OPERATORS[a as usize]),
+      11 => format!(" {}, {}", spelled(&FUNCTIONS, a), many(b, "argument")),
+      13 => format!(" {}", spelled(&PREFIXES, a)),
+      14 | 15 => format!(" {}", spelled(&OPERATORS, a)),
       19 => format!(" to {}", target(a)),
       20 | 21 => format!(" {}", target(a)),
       22 => format!(", {}", many(a, "jump")),
@@ -227,14 +138,15 @@ impl Book<'_> {
       32 if a == 1 => format!(", {}, with prompt", many(b, "place")),
       32 => format!(", {}", many(b, "place")),
       33 => format!(", {}", many(a, "place")),
-      34 if b == 1 => format!(" {} with length", MODES[a as usize]),
-      34 => format!(" {}", MODES[a as usize]),
+      34 if b == 1 => format!(" {} with length", spelled(&MODES, a)),
+      34 => format!(" {}", spelled(&MODES, a)),
       35 => format!(", {} from byte {a}", many(b, "byte")),
       44 | 45 => {
         let place = if a == 1 { " to file" } else { "" };
         let end = if b == 1 { " at the end" } else { "" };
         format!("{place}{end}")
       }
+      _ if word_of_call(record).is_none() => format!(" {a} {b} {c}"),
       _ => String::new(),
     }
   }
@@ -245,10 +157,12 @@ impl Book<'_> {
       return format!("name {number}");
     };
     let mut name = piece(self.text, entry.start, entry.len);
-    if let EntryKind::Name { sigil } = entry.kind
-      && sigil != 0
-    {
-      name.extend(char::from_u32(sigil as u32));
+    if let EntryKind::Name { sigil } = entry.kind {
+      match sigil {
+        0 => {}
+        0x24 | 0x25 => name.extend(char::from_u32(sigil as u32)),
+        _ => name += &format!(" with the sign {sigil}"),
+      }
     }
     name
   }
@@ -261,13 +175,41 @@ impl Book<'_> {
   }
 }
 
+/// A call's word; none if document 01 has no such call.
+fn word_of_call(record: &Record) -> Option<&'static str> {
+  let place = record.call.checked_sub(1)?;
+  CALLS.get(place as usize).copied()
+}
+
+fn called(record: &Record) -> String {
+  let call = || format!("call {}", record.call);
+  word_of_call(record).map_or_else(call, str::to_string)
+}
+
+fn statement(case: u32) -> String {
+  or_number(STATEMENTS.get(case as usize).copied(), case)
+}
+
+/// The word of a case in a table.
+fn spelled<T>(table: &[(&str, T)], case: u32) -> String {
+  or_number(table.get(case as usize).map(|(word, _)| *word), case)
+}
+
+/// A word, or the number of what has none.
+fn or_number(word: Option<&str>, number: u32) -> String {
+  word.map_or_else(|| number.to_string(), str::to_string)
+}
+
 fn many(count: u32, thing: &str) -> String {
   format!("{count} {thing}{}", if count == 1 { "" } else { "s" })
 }
 
+/// A piece of the text. What lies outside it, or is longer than a line can
+/// be, is shown as nothing.
 fn piece(text: &[u16], start: usize, len: usize) -> String {
-  let piece = text.get(start..start + len).unwrap_or(&[]);
-  String::from_utf16_lossy(piece)
+  let rest = text.get(start..).unwrap_or(&[]);
+  let piece = rest.get(..len).filter(|_| len <= LONGEST_LINE);
+  clean(&String::from_utf16_lossy(piece.unwrap_or(&[])))
 }
 
 /// A literal as written; its value where that is another, as in a delay.
@@ -278,19 +220,13 @@ fn literal(record: &Record, line: &str) -> String {
     line.chars().skip(start).take(end.saturating_sub(start)).collect();
   match written.parse::<f64>() {
     Ok(value) if Number::from(value) == (Number { e, m }) => written,
+    _ if e > Number::TOO_LARGE.e => format!("{m} * 2^{}", e - 160),
     _ => (m as f64 * 2f64.powi(e as i32 - 160)).to_string(),
   }
 }
 
-/// The text of each line, by the lengths in the sheet.
-fn line_texts(sheet: &[u32], text: &[u16]) -> Vec<String> {
-  let mut rest = text;
-  let mut lines = vec![];
-  for word in sheet.iter().filter(|word| **word >> 24 == 0x10) {
-    let len = (word & 0xff_ffff) as usize;
-    let (line, behind) = rest.split_at(len.min(rest.len()));
-    lines.push(String::from_utf16_lossy(line));
-    rest = behind;
-  }
-  lines
+/// The lengths of a sheet's lines.
+pub fn line_lengths(sheet: &[u32]) -> Vec<usize> {
+  let heads = sheet.iter().filter(|head| word::kind(**head) == word::LINE);
+  heads.map(|head| word::payload(*head)).collect()
 }

@@ -7,9 +7,53 @@ pub struct Range {
   pub end: usize,
 }
 
+impl Range {
+  /// What lies in so many units.
+  pub fn within(&self, len: usize) -> Self {
+    let end = self.end.min(len);
+    Self { start: self.start.min(end), end }
+  }
+
+  /// The units of a line that lie in the range.
+  pub fn units<'a>(&self, line: &'a [u16]) -> &'a [u16] {
+    let Self { start, end } = self.within(line.len());
+    &line[start..end]
+  }
+
+  /// The same as a text.
+  pub fn text(&self, line: &[u16]) -> String {
+    String::from_utf16_lossy(self.units(line))
+  }
+}
+
 #[derive(Clone, PartialEq, Debug, Default)]
 pub struct Program {
   pub lines: Vec<Line>,
+}
+
+impl Program {
+  /// The lines, each with its units; `units` is the whole text.
+  pub fn lines_of<'a>(
+    &'a self,
+    units: &'a [u16],
+  ) -> impl Iterator<Item = (&'a Line, &'a [u16])> {
+    let lengths = self.lines.iter().map(|line| line.len);
+    self.lines.iter().zip(pieces(units, lengths))
+  }
+}
+
+/// The pieces of a text with these lengths, one behind the other. What would
+/// stand behind the text is not there.
+pub fn pieces<'a>(
+  units: &'a [u16],
+  lengths: impl Iterator<Item = usize>,
+) -> impl Iterator<Item = &'a [u16]> {
+  let mut rest = units;
+  lengths.map(move |len| {
+    let (piece, behind) = rest.split_at(len.min(rest.len()));
+    rest = behind;
+    piece
+  })
 }
 
 #[derive(Clone, PartialEq, Debug)]
@@ -177,6 +221,50 @@ pub enum StmtKind {
   NoOp,
 }
 
+/// The statements that are their word alone, as a pattern.
+macro_rules! word_alone {
+  () => {
+    StmtKind::Beep
+      | StmtKind::Clear
+      | StmtKind::Cls
+      | StmtKind::Cont
+      | StmtKind::End
+      | StmtKind::Flash
+      | StmtKind::Graph
+      | StmtKind::InKey
+      | StmtKind::Inverse
+      | StmtKind::Normal
+      | StmtKind::NoTrace
+      | StmtKind::Pop
+      | StmtKind::Return
+      | StmtKind::System
+      | StmtKind::Text
+      | StmtKind::Trace
+      | StmtKind::Wend
+  };
+}
+pub(crate) use word_alone;
+
+/// The statements that go on to the line's end, as a pattern of what stands
+/// behind their word.
+macro_rules! remark {
+  ($text:pat) => {
+    StmtKind::Auto($text)
+      | StmtKind::Copy($text)
+      | StmtKind::Del($text)
+      | StmtKind::Edit($text)
+      | StmtKind::Files($text)
+      | StmtKind::Kill($text)
+      | StmtKind::List($text)
+      | StmtKind::New($text)
+      | StmtKind::Rem($text)
+      | StmtKind::Rename($text)
+      | StmtKind::Save($text)
+      | StmtKind::Stop($text)
+  };
+}
+pub(crate) use remark;
+
 #[derive(Clone, Copy, PartialEq, Eq, Debug)]
 pub struct Datum {
   pub range: Range,
@@ -237,6 +325,14 @@ pub enum ExprKind {
   Index { name: Option<Range>, indices: Vec<Expr> },
   Inkey,
   Error,
+}
+
+impl ExprKind {
+  /// Whether the range of such an expression is what it says: a name, a text
+  /// or a number. Parentheses around it do not widen it.
+  pub fn is_said_by_range(&self) -> bool {
+    matches!(self, Self::Ident | Self::StringLit | Self::NumberLit(_))
+  }
 }
 
 /// A literal's value: m times 2^(e - 160) with m at least 2^31; zero at e 0;

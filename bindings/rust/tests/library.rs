@@ -1,9 +1,9 @@
 //! The wrapper over the library: document 01's example, the encoder, the
 //! examples of the repository against their stored listings, the refusals.
 
+use hollupsa::names;
 use hollupsa::tree::*;
-use hollupsa::{Compiled, EntryKind, Refusal, basic, compile, compile_into};
-use hollupsa::{Record, names};
+use hollupsa::{Answer, EntryKind, Refusal, basic, compile, compile_into};
 use std::fs;
 
 /// Document 01's sheet of `10 GOTO 10`.
@@ -20,19 +20,11 @@ fn range(start: usize, end: usize) -> Range {
   Range { start, end }
 }
 
-/// Document 01's listing.
-fn listing(compiled: &Compiled) -> String {
-  let mut out = String::new();
-  for (at, Record { call, line, args: [a, b, c], .. }) in
-    compiled.records().enumerate()
-  {
-    out += &format!("{at} {line} {call} {a} {b} {c}\n");
-  }
-  for note in compiled.notes() {
-    let Range { start, end } = note.range;
-    out += &format!("note {} {} {start} {end}\n", note.class, note.line);
-  }
-  out
+/// The tree of a text that is read whole.
+fn read(text: &str) -> Program {
+  let form = basic::read(text);
+  assert!(form.is_read(), "{text}: {:?}", form.problems);
+  form.program
 }
 
 #[test]
@@ -44,7 +36,7 @@ fn encodes_the_worked_example() {
     Line { len: 10, label: Some((range(0, 2), 10)), stmts: vec![stmt] };
   let program = Program { lines: vec![line] };
   assert_eq!(program.encode(), SHEET);
-  assert_eq!(basic::read("10 GOTO 10").unwrap(), program);
+  assert_eq!(read("10 GOTO 10"), program);
 }
 
 /// Each statement once, with missing parts, in the sheet's order.
@@ -164,7 +156,7 @@ fn the_form_takes_what_is_encoded() {
 #[test]
 fn compiles_the_worked_example() {
   let compiled = compile(&SHEET, &units("10 GOTO 10")).unwrap();
-  assert_eq!(listing(&compiled), "0 0 20 0 0 0\n1 0 2 17 0 0\n");
+  assert_eq!(compiled.listing(), "0 0 20 0 0 0\n1 0 2 17 0 0\n");
   assert_eq!(compiled.entries().len(), 0);
   let first = compiled.records().next().unwrap();
   assert_eq!(first.range, range(3, 10));
@@ -174,21 +166,22 @@ fn compiles_the_worked_example() {
 fn the_examples_have_their_listings() {
   let folder = concat!(env!("CARGO_MANIFEST_DIR"), "/../../examples");
   for name in ["tally", "volume", "diameters", "delay"] {
-    let read =
+    let file =
       |end: &str| fs::read_to_string(format!("{folder}/{name}.{end}")).unwrap();
-    let text = read("bas");
-    let sheet = basic::read(&text).unwrap().encode();
+    let text = file("bas");
+    let sheet = read(&text).encode();
     let compiled = compile(&sheet, &units(&text)).unwrap();
-    assert_eq!(listing(&compiled), read("listing"), "{name}");
-    let shown = names::listing(&sheet, &units(&text), &compiled);
-    assert_eq!(shown, read("names"), "{name}");
+    assert_eq!(compiled.listing(), file("listing"), "{name}");
+    let shown =
+      names::listing(&names::line_lengths(&sheet), &units(&text), &compiled);
+    assert_eq!(shown, file("names"), "{name}");
   }
 }
 
 #[test]
 fn entries_carry_names_data_and_bytes() {
   let text = "10 A%=1\n20 DATA 5,\"X\"\n";
-  let sheet = basic::read(text).unwrap().encode();
+  let sheet = read(text).encode();
   let compiled = compile(&sheet, &units(text)).unwrap();
   let kinds: Vec<EntryKind> = compiled.entries().map(|e| e.kind).collect();
   assert_eq!(
@@ -216,10 +209,10 @@ fn tells_each_refusal() {
   assert_eq!(compile(&SHEET, &text[1..]), Err(Refusal::Lines { place: 1 }));
   assert_eq!(with(6, 0x0100300b), Refusal::Range { place: 6 });
   let mut deep = format!("10 A={}1\n", "-".repeat(63));
-  let sheet = basic::read(&deep).unwrap().encode();
+  let sheet = read(&deep).encode();
   assert!(compile(&sheet, &units(&deep)).is_err_and(|r| r.number() == 5));
   deep.remove(5);
-  let sheet = basic::read(&deep).unwrap().encode();
+  let sheet = read(&deep).encode();
   assert!(compile(&sheet, &units(&deep)).is_ok());
   let expr = || Expr { range: range(0, 0), kind: ExprKind::Error };
   let kind = StmtKind::Fseek { filenum: expr(), offset: expr() };
@@ -232,7 +225,7 @@ fn tells_each_refusal() {
 #[test]
 fn short_buffers_are_told() {
   let text = "10 A=\"\"";
-  let sheet = basic::read(text).unwrap().encode();
+  let sheet = read(text).encode();
   let text = units(text);
   let tell = |list: usize, notes: usize, book: usize, work: usize| {
     let mut lent = [list, notes, book, work].map(|n| vec![7; n]);
@@ -264,12 +257,6 @@ fn literals_are_exact() {
   assert_eq!(of(1e-60), Number::ZERO);
 }
 
-#[test]
-fn what_cannot_be_read_is_told_with_its_place() {
-  let unread = basic::read("10 CLS\n20 FOR I=1\n").unwrap_err();
-  assert_eq!(unread.to_string(), "line 2, column 12: put TO here");
-}
-
 /// A name or a string in parentheses is what stands in them.
 #[test]
 fn parentheses_do_not_widen_names_and_strings() {
@@ -277,7 +264,7 @@ fn parentheses_do_not_widen_names_and_strings() {
     [("10 B=(A)", "10 B= A "), ("10 PRINT (\"X\")", "10 PRINT  \"X\" ")]
   {
     let records = |form: &str| -> Vec<_> {
-      let sheet = basic::read(form).unwrap().encode();
+      let sheet = read(form).encode();
       let compiled = compile(&sheet, &units(form)).unwrap();
       compiled.records().map(|record| (record.call, record.args)).collect()
     };
@@ -305,32 +292,36 @@ fn an_answer_says_why_it_was_refused() {
     &mut [1; 9],
   );
   assert_eq!(answer.refused(), Some(Refusal::WorkTooShort));
+  let accepted = Answer { refusal: 0, ..answer };
+  assert_eq!(accepted.refused(), None);
 }
 
+/// Each number has its refusal, also one that document 01 has not.
 #[test]
-fn nesting_ends_at_64() {
-  let nested = |n: usize| format!("10 A={}1{}", "(".repeat(n), ")".repeat(n));
-  assert!(basic::read(&nested(63)).is_ok());
-  let refused = basic::read(&nested(64)).unwrap_err();
-  assert_eq!(refused.wanted, "fewer parts in each other, at most 64,");
-  assert!(basic::read(&nested(2000)).is_err());
-  let signs = format!("10 A={}1", "-".repeat(2000));
-  assert!(basic::read(&signs).is_err());
-}
-
-#[test]
-fn an_unknown_statement_is_told_where_it_stands() {
-  let refused = basic::read("10 STOP").unwrap_err();
-  assert_eq!((refused.line, refused.column), (1, 4));
+fn any_answer_has_its_refusal() {
+  for number in (1..=13).chain([u32::MAX]) {
+    let [place, records, notes, entries] = [7, 0, 0, 0];
+    let answer = Answer { refusal: number, place, records, notes, entries };
+    let refusal = answer.refused().expect("a refusal");
+    assert_eq!(refusal.number(), number);
+    let is_unknown = refusal == Refusal::Unknown { number };
+    assert_eq!(is_unknown, number > 11);
+    let has_place = (4..=8).contains(&number);
+    assert_eq!(refusal.place(), has_place.then_some(7));
+    assert!(!is_unknown || refusal.to_string().contains(&number.to_string()));
+  }
 }
 
 /// A text that is not the sheet's still gets a listing.
 #[test]
 fn a_listing_of_another_text_ends() {
   let text = units("10 CLS");
-  let sheet = basic::read("10 CLS").unwrap().encode();
+  let sheet = read("10 CLS").encode();
   let compiled = compile(&sheet, &text).unwrap();
-  assert!(names::listing(&sheet, &[], &compiled).contains("CLS"));
+  assert!(
+    names::listing(&names::line_lengths(&sheet), &[], &compiled)
+      .contains("CLS")
+  );
 }
 
 /// Lines that make no record are shown, and a RESTORE names its datum.
@@ -338,8 +329,12 @@ fn a_listing_of_another_text_ends() {
 fn a_listing_shows_every_line() {
   let form = "10 DATA SPRUCE,FIR\n20 RESTORE 10\n30 DATA 1\n40 REM\n";
   let text = units(form);
-  let sheet = basic::read(form).unwrap().encode();
-  let listing = names::listing(&sheet, &text, &compile(&sheet, &text).unwrap());
+  let sheet = read(form).encode();
+  let listing = names::listing(
+    &names::line_lengths(&sheet),
+    &text,
+    &compile(&sheet, &text).unwrap(),
+  );
   for line in form.lines() {
     assert!(listing.lines().any(|shown| shown == line), "{line}");
   }

@@ -1,0 +1,1 @@
+10 CLS20 PRINT "A"

@@ -1,0 +1,8 @@
+10 A=LEFT$("A")
+20 B$=MID$("A",1,2,3)
+30 PRINT TAB(5);1+TAB(2)
+40 A=SPC(5)
+50 B=SIN("A")+ASC(5)
+60 C=POINT(1)
+70 D=FN F$(1):E=FN G("A")
+80 DEF FN H%(X$)="A"

@@ -1,0 +1,4 @@
+10 INPUT "STAND ";S$
+20 T=S$
+30 D$=S$+1
+40 PRINT LEN(T)

@@ -1,0 +1,5 @@
+10 PRINT "A"
+
+20 PRINT "B":
+	30	PRINT	"C"::PRINT "D"
+40 GOTO 10

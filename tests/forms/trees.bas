@@ -1,0 +1,11 @@
+10 REM Trees of a plot by species, with their basal area
+20 DIM B(9)
+30 INPUT "SPECIES (0 ENDS) ";S
+40 IF S=0 THEN 90
+50 INPUT "DBH IN CM ";D
+60 B(S)=B(S)+D*D*.00007854
+70 GOTO 30
+90 FOR S=1 TO 9
+100 PRINT S;B(S)
+110 NEXT S
+120 END
