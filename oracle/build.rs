@@ -41,13 +41,17 @@ fn main() {
   let vm = module(&src, "vm/codegen.rs", "codegen", quiet, "pub ");
   fs::write(out.join("vm.rs"), vm).unwrap();
 
-  // The texts of the two enum files, for the test that compares the order of
-  // the cases with the tables here.
-  let texts = format!(
-    "pub const STMT_RS: &str = include_str!({:?});\npub const EXPR_RS: &str = include_str!({:?});\n",
-    src.join("ast/stmt.rs"),
-    src.join("ast/expr.rs")
-  );
+  // The texts that the tables here and the project's are compared with.
+  let mut texts = String::new();
+  for (name, file) in [
+    ("STMT_RS", "ast/stmt.rs"),
+    ("EXPR_RS", "ast/expr.rs"),
+    ("LABEL_RS", "ast/label.rs"),
+    ("COMPILER_RS", "compiler.rs"),
+  ] {
+    let path = src.join(file);
+    texts += &format!("pub const {name}: &str = include_str!({path:?});\n");
+  }
   fs::write(out.join("texts.rs"), texts).unwrap();
 
   library(&here);

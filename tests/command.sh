@@ -223,33 +223,9 @@ for form in examples/*.bas; do
 done
 printf 'short' >"$here/short.bin"
 ends "run of short input" 0 '^refused 1$' 'shorter' by_link short.bin
-
-# The proved program: what fails is told, with status 1.
-on_input() {
-  crates/listing/out/listing <"$1"
-}
-no_output() {
-  on_input examples/volume.bin >&-
-}
-no_input() {
-  crates/listing/out/listing <&-
-}
-gone() {
-  { sleep 1; on_input examples/volume.bin; echo $? >"$work/status"; } | true
-  return "$(cat "$work/status")"
-}
-ends "listing" 0 '^0 ' '' on_input examples/volume.bin
-ends "listing of a folder" 1 '' . on_input examples
-ends "listing with a closed output" 1 '' . no_output
-ends "listing with a closed input" 1 '' . no_input
-ends "listing in a closed pipe" 1 '' . gone
 if [ -c /dev/full ]; then
   run_to_full() {
     ./run examples/volume.bin >/dev/full
   }
-  full() {
-    on_input examples/volume.bin >/dev/full
-  }
   ends "run to a full disk" 2 '' . run_to_full
-  ends "listing to a full disk" 1 '' . full
 fi

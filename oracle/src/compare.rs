@@ -178,14 +178,20 @@ struct Wanted {
 
 impl Wanted {
   fn new(made: &Compiled) -> Self {
-    let Compiled { recorder, notes, .. } = made;
-    let (records, entries) = (&recorder.records, &recorder.entries);
-    Self {
-      list: records.iter().flat_map(|record| record.words()).collect(),
-      notes: notes.iter().flat_map(|note| note.words()).collect(),
-      book: entries.iter().flat_map(|entry| entry.words()).collect(),
-    }
+    let [list, notes, book] = words(made);
+    Self { list, notes, book }
   }
+}
+
+/// The words of list, notes and book, without the zeros behind.
+pub fn words(made: &Compiled) -> [Vec<u32>; 3] {
+  let Compiled { recorder, notes, .. } = made;
+  let (records, entries) = (&recorder.records, &recorder.entries);
+  [
+    records.iter().flat_map(|record| record.words()).collect(),
+    notes.iter().flat_map(|note| note.words()).collect(),
+    entries.iter().flat_map(|entry| entry.words()).collect(),
+  ]
 }
 
 /// The bounds that the programs lend by, of records, notes and entries.

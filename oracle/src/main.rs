@@ -21,6 +21,7 @@ mod bench;
 mod cases;
 mod check;
 mod compare;
+mod computed;
 mod crowded;
 mod damage;
 mod form;
@@ -37,6 +38,7 @@ mod recorder;
 mod replay;
 mod rng;
 mod run;
+mod rust_text;
 mod selftest;
 mod sheet;
 mod standins;
@@ -92,6 +94,7 @@ oracle listing < INPUT           document 01's listing of one program input
 oracle generate --seed S --count N [--valid|--damaged|--mixed] [--small]
 oracle crowded --seed S          two sheets with more names than a tree holds
 oracle labels --seed S --count N sheets crowded with labelled lines
+oracle cases --seed S --count N  inputs with their answers, for crates/cases
 oracle pairs                     document 01's 'Pairs to run'
 oracle replay-list               the fixed list of inputs
 oracle answers < FILE            each answer whole
@@ -161,6 +164,10 @@ fn command_line(command: &str, options: &[&str]) -> io::Result<bool> {
         progress.step();
       }
     }
+    "cases" => {
+      let Options { seed, count, .. } = parse(command, options)?;
+      computed::cases(&mut out, seed, count)?;
+    }
     "pairs" => {
       for pair in pairs::pairs() {
         replay::write_input(&mut out, &pair.input)?;
@@ -225,7 +232,7 @@ fn each(
 fn options_of(command: &str) -> &'static str {
   match command {
     "crowded" => "--seed",
-    "labels" => "--seed --count",
+    "cases" | "labels" => "--seed --count",
     "mutants" => "--seed --count --jobs",
     "texts" => "--seed --count --jobs --small",
     "generate" | "stress" => "--seed --count --small --valid --damaged --mixed",

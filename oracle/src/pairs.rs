@@ -241,6 +241,17 @@ pub fn pairs() -> Vec<Pair> {
     }
   }
 
+  // FPUTC takes a number, then a text: of one kind only an Error fits both.
+  let input = input_of(vec![single(|m| {
+    m.put("FPUTC #");
+    let filenum = binary(m, false);
+    m.put(",");
+    let value = binary(m, false);
+    StmtKind::Fputc { filenum, value }
+  })]);
+  let listing = "0 0 4 9 1 0\n1 0 14 6 0 0\n2 0 4 14 1 0\n3 0 14 6 0 0\n4 0 2 66 2 0\n5 0 2 17 0 0\n";
+  add("FPUTC missing + text", input, listing, Some(vec![]));
+
   // LOAD "+5", "0 07", "256": 5, 7, class 12.
   let bytes = "0 0 3 129 2147483648 0\n1 0 35 0 1 0\n2 0 2 17 0 0\n";
   add("LOAD +5", load("+5"), bytes, Some(vec![[52, 0, 7, 2, 5]]));

@@ -107,7 +107,7 @@ pub fn notes(prog: &Program) -> Vec<Note> {
 }
 
 /// Pieces of the Rust's messages and their class; the first that fits counts.
-const CLASSES: [(&str, u32); 27] = [
+pub const CLASSES: [(&str, u32); 27] = [
   ("行号必须递增", 1),
   ("RESTORE 语句将会把 DATA 指针重置到程序开头", 3),
   ("行号不存在", 2),

@@ -4,6 +4,7 @@ use crate::ast::*;
 use crate::cases;
 use crate::check;
 use crate::compare;
+use crate::computed;
 use crate::form;
 use crate::generate::{self, Sort};
 use crate::labels;
@@ -23,13 +24,14 @@ use std::fmt::{self, Display, Formatter};
 use std::io::{self, Write};
 use std::panic::{self, AssertUnwindSafe};
 
-include!(concat!(env!("OUT_DIR"), "/texts.rs"));
+use crate::rust_text::{self, EXPR_RS, STMT_RS};
 
 pub fn selftest(out: &mut impl Write) -> io::Result<bool> {
   type Test = fn() -> Result<String, String>;
-  let tests: [(&str, Test); 21] = [
+  let tests: [(&str, Test); 23] = [
     ("options that a command does not take are refused", options),
     ("tables follow the enums of stmt.rs and expr.rs", tables),
+    ("the project's tables are the Rust's, each word", rust_text::tables_held),
     ("the worked example", worked_example),
     ("the pairs to run", pairs_to_run),
     ("refusals and places worked out by hand", form_cases),
@@ -46,6 +48,7 @@ pub fn selftest(out: &mut impl Write) -> io::Result<bool> {
     ("generated inputs, with CodeGen beside", generated),
     ("sheets crowded with labels", crowded_labels),
     ("the replay list covers all", replay_list),
+    ("the cases of crates/cases reach all", computed::stored),
     ("the comparison tells every change", compare::tells_changes),
     ("trees printed as text and read again", texts::some),
     ("changed texts read, printed and read again", mutants::some),
@@ -79,7 +82,7 @@ pub fn guarded<T>(
   })
 }
 
-fn same<T: PartialEq + fmt::Debug>(a: T, b: T) -> Result<(), String> {
+pub fn same<T: PartialEq + fmt::Debug>(a: T, b: T) -> Result<(), String> {
   if a == b { Ok(()) } else { Err(format!("{a:?} is not {b:?}")) }
 }
 
@@ -115,6 +118,7 @@ fn options() -> Result<String, String> {
     ("texts", ["--valid", "--damaged", "--mixed", "--out"]),
     ("mutants", ["--valid", "--small", "--out", "--unknown"]),
     ("crowded", ["--count", "--small", "--jobs", "--out"]),
+    ("cases", ["--valid", "--small", "--jobs", "--out"]),
   ];
   for (command, options) in refused {
     for option in options {

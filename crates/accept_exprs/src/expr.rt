@@ -1,12 +1,13 @@
 // The form of expressions, walked directly; the table of the form is the definition that the functions follow.
 // left falls at each node and at is what the call before gave, so neither is in form: it would be made anew for each call.
 ghost use Rattle.std.specs.Prelude.{◌≡◌};
-ghost use Rattle.sheet.specs.Table.{node_kind, expr, non_empty, optional};
+ghost use Rattle.sheet.specs.declared.form.Kind.TheVariants.{Expr as ExprWord};
+ghost use Rattle.sheet.specs.Table.{kind_number, node_kind, expr, non_empty, optional};
 ghost use Rattle.accept_exprs.specs.Read.{node_in, field_in};
 
 use crate::leaf::{operator_form, own_form};
 use recorder::word::payload_at;
-use sheet::form::{ExprKind, LineForm, Offence, Sort, Walk, may_stand};
+use sheet::form::{BINARY_OPS, ExprKind, FUNCTIONS, LineForm, Offence, Sort, Walk, may_stand};
 use sheet::leaf::{absent_form, head_form, is_absent, non_empty_form, number_form};
 
 // A count of at least one, and so many expressions. A loop of its own beside accept_fields' some_form: the cycle ends since each part
@@ -39,7 +40,7 @@ pub fn expr_form(form: &LineForm, left: usize, at: usize) -> Walk
     match ExprKind::of(k) {
         ExprKind::NumberLit => number_form(form.sheet, q),
         ExprKind::SysFuncCall => {
-            let p = operator_form(form, 34, q)?;
+            let p = operator_form(form, FUNCTIONS, q)?;
             exprs_form(form, left - 1, p)
         }
         ExprKind::UserFuncCall => {
@@ -48,7 +49,7 @@ pub fn expr_form(form: &LineForm, left: usize, at: usize) -> Walk
         }
         ExprKind::Binary => {
             let p = expr_form(form, left - 1, q)?;
-            let o = operator_form(form, 13, p)?;
+            let o = operator_form(form, BINARY_OPS, p)?;
             expr_form(form, left - 1, o)
         }
         ExprKind::Unary => {
@@ -66,7 +67,7 @@ pub fn expr_form(form: &LineForm, left: usize, at: usize) -> Walk
 // A place to store, of the sort c: an expression of the cases that may stand there.
 #[tactic(auto, unfolding(sheet::specs::Form::node_form), using(sheet::proofs::Walks::told, crate::proofs::Fields::sort_is))]
 pub fn place_form(form: &LineForm, left: usize, c: Sort, at: usize) -> Walk
-    ensures { node_kind c ≡ 33 → result ≡ node_in form.now left c at }
+    ensures { node_kind c ≡ kind_number ExprWord → result ≡ node_in form.now left c at }
 {
     if may_stand(c, payload_at(form.sheet, at)) {
         expr_form(form, left, at)

@@ -6,7 +6,8 @@
 ghost use Rattle.std.specs.Prelude.{◌≡◌};
 ghost use Rattle.sheet.specs.declared.form.Item.TheVariants.{Range as range, Source as source, Element as element};
 ghost use Rattle.sheet.specs.declared.form.Shape.TheVariants.{Op2, Op3, Set, Def, Field, For, GoTo, If, Input, Locate, On, Open, Swap, Write};
-ghost use Rattle.sheet.specs.Table.{expr, optional₂, shape_fields};
+ghost use Rattle.sheet.specs.Table.{expr, optional₂};
+ghost use Rattle.sheet.specs.Shapes.{shape_fields};
 ghost use Rattle.accept_exprs.specs.Read.{item_in, field_in, fields_in};
 
 use crate::list::{list_form, some_form};

@@ -6,6 +6,7 @@ ghost use Rattle.sheet.specs.Form.{list_form, times_form};
 ghost use Rattle.accept_exprs.specs.Read.{list_in, some_in};
 ghost use Rattle.accept_fields.specs.Counted.{Reads};
 
+use recorder::number::PAYLOAD_SIZE;
 use recorder::word::payload_at;
 use sheet::form::{Kind, LineForm, Walk};
 use sheet::leaf::{non_empty_form, take_word};
@@ -16,7 +17,7 @@ pub(crate) fn list_form<F: Fn(usize) -> Walk>(form: &LineForm, at: usize, each: 
     requires { F.IsAlwaysCallable each }
     ensures { (f : ℕ → Walk) → Reads (F.post each) f → result ≡ list_in form.now 0 f at }
 {
-    let mut p = take_word(form.sheet, Kind::Count, 16777216, at)?;
+    let mut p = take_word(form.sheet, Kind::Count, PAYLOAD_SIZE, at)?;
     for _ in 0..payload_at(form.sheet, at) {
         p = each(p)?;
     }

@@ -7,7 +7,7 @@ use Rattle.sheet.specs.declared.form.Item.TheVariants.{Node, Nothing}
 use Rattle.sheet.specs.declared.form.Shape.TheVariants.{If}
 use Rattle.sheet.specs.declared.form.Offence.TheVariants.{TooDeep}
 use Rattle.sheet.specs.declared.form.Line.{Line}
-use Rattle.sheet.specs.Table.{shape_fields}
+use Rattle.sheet.specs.Shapes.{shape_fields}
 use Rattle.sheet.specs.Tree.{shape_of}
 use Rattle.sheet.specs.Walk.{Walk}
 use Rattle.std.specs.Prelude.{Ok, Err}

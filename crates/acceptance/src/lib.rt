@@ -6,6 +6,7 @@ ghost use Rattle.recorder.specs.Word.{either};
 ghost use Rattle.sheet.specs.Form.{between};
 ghost use Rattle.sheet.specs.Check.{has_surrogate, checked};
 
+use recorder::number::SHEET_LIMIT;
 use sheet::form::Refusal;
 
 pub mod stmt;
@@ -27,7 +28,7 @@ fn has_surrogate(text: &[u16]) -> bool
 pub fn check(sheet: &[u32], text: &[u16], work: usize) -> Result<(), Refusal>
     ensures { result ≡ checked sheet.now text.now work }
 {
-    if 65536 < sheet.len() || 65536 < text.len() {
+    if SHEET_LIMIT < sheet.len() || SHEET_LIMIT < text.len() {
         return Err(Refusal::TooLong);
     }
     if has_surrogate(text) {

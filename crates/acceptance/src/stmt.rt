@@ -2,12 +2,13 @@
 // left falls at each node and at is what the call before gave, so neither is in form: it would be made anew for each call.
 ghost use Rattle.std.specs.Prelude.{◌≡◌};
 ghost use Rattle.sheet.specs.declared.form.Shape.TheVariants.{If};
-ghost use Rattle.sheet.specs.Table.{shape_fields};
+ghost use Rattle.sheet.specs.Shapes.{shape_fields};
 ghost use Rattle.sheet.specs.Form.{line_form, lines_form, sheet_form};
 ghost use Rattle.accept_exprs.specs.Read.{node_in, list_in, fields_in};
 
 use accept_exprs::expr::expr_form;
 use accept_fields::field::plain_form;
+use recorder::number::{DEPTH_LIMIT, PAYLOAD_SIZE};
 use recorder::word::payload_at;
 use sheet::form::{Kind, Line, LineForm, Offence, Shape, Sort, Walk, is_fseek};
 use sheet::leaf::{absent_form, head_form, is_absent, take_word};
@@ -57,14 +58,14 @@ fn stmt_form(form: &LineForm, left: usize, at: usize) -> Walk
 fn stmts_form(form: &LineForm, left: usize, at: usize) -> Walk
     ensures { result ≡ list_in form.now left (node_in form.now left Sort.Stmt) at }
 {
-    let mut p = take_word(form.sheet, Kind::Count, 16777216, at)?;
+    let mut p = take_word(form.sheet, Kind::Count, PAYLOAD_SIZE, at)?;
     for _ in 0..payload_at(form.sheet, at) {
         p = stmt_form(form, left, p)?;
     }
     Ok(p)
 }
 
-// A line: its head, its label, its statements, with 64 depths. No LineForm yet: the line's first word says how long it is.
+// A line: its head, its label, its statements, with all depths left. No LineForm yet: the line's first word says how long it is.
 #[tactic(auto, unfolding(sheet::specs::Form::line_form))]
 fn line_form(sheet: &[u32], text: &[u16], base: usize, at: usize) -> Walk
     ensures { result ≡ line_form sheet.now text.now base at }
@@ -77,7 +78,7 @@ fn line_form(sheet: &[u32], text: &[u16], base: usize, at: usize) -> Walk
         line: Line { base, len },
     };
     let q = form.label_form(p)?;
-    stmts_form(&form, 64, q)
+    stmts_form(&form, DEPTH_LIMIT, q)
 }
 
 // So many lines. sheet and text go by themselves, here and below: each line makes its own LineForm of them.
@@ -100,6 +101,6 @@ fn lines_form(sheet: &[u32], text: &[u16], n: u32, at: usize) -> Walk
 pub fn sheet_form(sheet: &[u32], text: &[u16]) -> Walk
     ensures { result ≡ sheet_form sheet.now text.now }
 {
-    let p = take_word(sheet, Kind::Program, 16777216, 0)?;
+    let p = take_word(sheet, Kind::Program, PAYLOAD_SIZE, 0)?;
     lines_form(sheet, text, payload_at(sheet, 0), p)
 }

@@ -3,17 +3,19 @@
 use mathlib.Core.Path.{◌≡◌, refl, sym}
 use mathlib.Core.List.{List, [], ◌∷◌, ◌++◌}
 use mathlib.Core.Bool.{Bool, true, false}
-use Prim.Native.Nat.{ℕ, zero, suc, ◌+◌, ◌*◌, ◌-◌, ◌≤◌}
-use lib.Dec.{ltb, eqb}
+use Prim.Native.Nat.{ℕ, zero, suc, ◌+◌, ◌*◌, ◌-◌, ◌≤◌, ◌<◌}
+use lib.Dec.{ltb}
 use lib.ListN.{length, length-append}
 use borrow.Author.Tests.{eqb-true}
 use native.Mathlib.Omega.{arith}
+use Rattle.recorder.specs.Numbers.{unknown}
+use Rattle.recorder.specs.Calls.{unpack, label_word, range_number, while_call, error_note, warning_note}
 use Rattle.recorder.specs.Word.{pick, both, either}
-use Rattle.recorder.specs.Recorder.{Recorder, Look, unpack}
+use Rattle.recorder.specs.Recorder.{Recorder, Look}
 use Rattle.recorder.specs.Ideal.{Rec, rec, note_of, Entry, Ideal, ideal, Search, missing, found, find_name, symbol_in, symbol_of, change, with_a, with_c, settled, unlabelled, look_of}
 use Rattle.recorder.specs.Marks.{Mark}
 use Rattle.recorder.specs.Closing.{is_while, rec_at, end_from, close_whiles, open_note, open_notes, delays, end_rec, clean_up, rules_r}
-use Rattle.recorder.proofs.Bools.{never, both_left, both_right}
+use Rattle.recorder.proofs.Bools.{true_not_false, both_left, both_right}
 use Rattle.recorder.proofs.Words.{length_snoc, change_length}
 use Rattle.simulation.proofs.Clean.{close_length, delays_length}
 use Rattle.sheet.specs.Tree.{Opt, absent, given, Target, ProgramLine}
@@ -21,23 +23,24 @@ use Rattle.rules.specs.Program.{Lines, Waiting, is_pending, label_note, compile_
 use Rattle.rules.proofs.Waits.{Waits, jumps_wait, restores_wait, of_waiting}
 use Rattle.bounds.specs.Size.{opt_target, line_words, lines_words, program_words}
 use Rattle.bounds.specs.Bounded.{Bounded}
-use Rattle.bounds.proofs.Tally.{Tally, tally, makes, reads, pends, Counts}
-use Rattle.bounds.proofs.Grows.{pick_in, grow_stmts}
+use Rattle.bounds.specs.Finished.{waits_for_label}
+use Rattle.bounds.proofs.Tally.{Tally, tally, makes, reads, Counts, CountsLines}
+use Rattle.bounds.proofs.Grows.{pick_in, grow_block}
 
 -- lines
-module _ {S : Type 0} {R : Recorder S} {P : Tally → S → Type 0} (κ : Counts R P) (t : List ℕ) where
+module _ {S : Type 0} {R : Recorder S} {m : ℕ} {P : Tally → S → Type 0} {D : ℕ → Tally → S → Type 0} (κ : CountsLines R m P D) (t : List ℕ) where
   grow_label : {k : Tally} {s : S} (base last : ℕ) (l : Opt Target) → P k s → P (reads (opt_target l) k) (label_note R t base last l s)
-  grow_label base last absent p = κ.fit p (omega arith)
-  grow_label base last (given l) p = pick_in κ t base (ltb l.label last) (κ.fit (κ.note p) (omega arith)) (κ.fit p (omega arith))
+  grow_label base last absent p = κ.counts.fit p (omega arith)
+  grow_label base last (given l) p = pick_in κ.counts t base (ltb l.label last) (κ.counts.fit (κ.counts.error p) (omega arith)) (κ.counts.fit p (omega arith))
 
-  grow_line : {k : Tally} (l : ProgramLine) (c : Lines S) → P k c.state → P (reads (line_words l) k) (compile_line R t l c).state
+  grow_line : {k : Tally} (l : ProgramLine) (c : Lines S) → c.line < m → P k c.state → P (reads (line_words l) k) (compile_line R t l c).state
   unfolding compile_line
-  grow_line l c p = κ.fit (grow_stmts κ t c.base l.stmts (grow_label c.base c.last l.label (κ.begin_line p))) (omega arith)
+  grow_line l c h p = κ.counts.fit (grow_block κ t c.base l.stmts (grow_label c.base c.last l.label (κ.begin_line h p))) (omega arith)
 
-  grow_lines : (ls : List ProgramLine) (c : Lines S) {k : Tally} → P k c.state → P (reads (lines_words ls) k) (compile_lines R t ls c).state
-  unfolding compile_lines lines_words
-  grow_lines [] c p = κ.fit p (omega arith)
-  grow_lines (l ∷ ls) c p = κ.fit (grow_lines ls (compile_line R t l c) (grow_line l c p)) (omega arith)
+  pub grow_lines : (ls : List ProgramLine) (c : Lines S) {k : Tally} → c.line + length ls ≤ m → P k c.state → P (reads (lines_words ls) k) (compile_lines R t ls c).state
+  unfolding compile_lines compile_line lines_words
+  grow_lines [] c h p = κ.counts.fit p (omega arith)
+  grow_lines (l ∷ ls) c h p = κ.counts.fit (grow_lines ls (compile_line R t l c) (omega (arith, h)) (grow_line l c (omega (arith, h)) p)) (omega arith)
 
 -- the records for which closing up may add a note: those that wait for a label, and WHILEs
 abbrev one : Bool → ℕ
@@ -45,10 +48,10 @@ one true = 1
 one false = 0
 
 abbrev waits : Rec → Bool
-waits r = both (pends r.call) (ltb 0 r.b)
+waits r = both (waits_for_label r.call) (ltb 0 r.b)
 
 abbrev later_note : Rec → ℕ
-later_note r = one (pick (pends r.call) (ltb 0 r.b) (is_while r))
+later_note r = one (pick (waits_for_label r.call) (ltb 0 r.b) (is_while r))
 
 unfoldable later_notes : List Rec → ℕ
 later_notes [] = 0
@@ -64,7 +67,7 @@ at_most true = omega arith
 at_most false = omega arith
 
 no_later : (a b c : Bool) → either a c ≡ false → one (pick a b c) ≡ 0
-no_later true b c e = never e
+no_later true b c e = true_not_false e
 no_later false b c e = rw e
 
 later_same : (f : Rec → Rec) → ((r : Rec) → later_note (f r) ≡ later_note r) → (rs : List Rec) (k : ℕ) → later_notes (change f rs k) ≡ later_notes rs
@@ -76,14 +79,14 @@ later_same f h (r ∷ rs) (suc k) = omega (arith, later_same f h rs k)
 -- a jump or a RESTORE that waits no longer
 one_less : (a b c : Bool) → both a b ≡ true → suc (one (pick a false c)) ≡ one (pick a b c)
 one_less true true c e = refl
-one_less true false c e = never (sym e)
-one_less false b c e = never (sym e)
+one_less true false c e = true_not_false (sym e)
+one_less false b c e = true_not_false (sym e)
 
-later_less : (f : Rec → Rec) → ((r : Rec) → later_note (f r) ≡ one (pick (pends r.call) false (is_while r))) → (rs : List Rec) (k : ℕ) → waits (rec_at rs k) ≡ true
+later_less : (f : Rec → Rec) → ((r : Rec) → later_note (f r) ≡ one (pick (waits_for_label r.call) false (is_while r))) → (rs : List Rec) (k : ℕ) → waits (rec_at rs k) ≡ true
     → suc (later_notes (change f rs k)) ≡ later_notes rs
 unfolding later_notes change
-later_less f h [] k e = never (sym e)
-later_less f h (r ∷ rs) zero e = omega (arith, h r, one_less (pends r.call) (ltb 0 r.b) (is_while r) e)
+later_less f h [] k e = true_not_false (sym e)
+later_less f h (r ∷ rs) zero e = omega (arith, h r, one_less (waits_for_label r.call) (ltb 0 r.b) (is_while r) e)
 later_less f h (r ∷ rs) (suc k) e = omega (arith, later_less f h rs k e)
 
 -- what the rules' recorder holds, within a tally
@@ -104,18 +107,29 @@ unfolding symbol_of
 counts t = record {
   emit = λ {s = i} {c} {r} {x} {y} {z} e p.
       let v = rec c i.line r x y z in
-      omega (arith, length_snoc i.records v, later_snoc i.records v, no_later (pends c) (ltb 0 y) (eqb c 25) e);
-  emit_any = λ {s = i} {c} {r} {x} {y} {z} p.
-      let v = rec c i.line r x y z in
-      omega (arith, length_snoc i.records v, later_snoc i.records v, at_most (pick (pends c) (ltb 0 y) (eqb c 25)));
-  note = λ {s = i} {c} {r} {v} p. omega (arith, length_snoc i.notes (note_of c i.line r v));
+      omega (arith, length_snoc i.records v, later_snoc i.records v, no_later (waits_for_label c) (ltb 0 y) (is_while v) e);
+  emit_waiting = λ {s = i} {c} {r} {x} w p.
+      let v = rec c i.line r x (label_word w) (range_number w) in
+      omega (arith, length_snoc i.records v, later_snoc i.records v, at_most (pick (waits_for_label c) (ltb 0 v.b) (is_while v)));
+  emit_while = λ {s = i} {r} {x} p.
+      let v = rec while_call i.line r x unknown 0 in
+      omega (arith, length_snoc i.records v, later_snoc i.records v);
+  error = λ {s = i} {c} {r} p. omega (arith, length_snoc i.notes (note_of c i.line r error_note));
+  warning = λ {s = i} {c} {r} p. omega (arith, length_snoc i.notes (note_of c i.line r warning_note));
   symbol = λ {s = i} {x} {n} {g} p. symbol_room (find_name t i.entries x n g) x n g p;
   datum = λ p. entry_room _ _ p;
   byte = λ p. entry_room _ _ p;
   patch = λ {s = i} {a} {v} p. omega (arith, change_length (with_a v) i.records a, later_same (with_a v) (λ r. refl) i.records a);
-  patch_end = λ {s = i} {a} {v} p. omega (arith, change_length (with_c v) i.records a, later_same (with_c v) (λ r. refl) i.records a);
-  begin_line = λ p. omega arith;
   fit = λ p h. omega arith;
+}
+
+counts_lines : (t : List ℕ) (m : ℕ) → CountsLines (rules_r t) m Room (λ a. Room)
+counts_lines t m = record {
+  counts = counts t;
+  body = λ a. counts t;
+  begin_def = λ p. (counts t).emit refl p;
+  end_def = λ {s = i} {a} {v} p. omega (arith, change_length (with_c v) i.records a, later_same (with_c v) (λ r. refl) i.records a);
+  begin_line = λ h p. omega arith;
 }
 
 -- a jump or a RESTORE gets its target, or a note
@@ -138,7 +152,7 @@ step_room t w o at false h p = p
 
 pending_waits : {w : Waiting} → Waits w → (r : Rec) → is_pending w (look_of r) ≡ true → waits r ≡ true
 pending_waits {w} h r e =
-    let p = of_waiting (λ (c : ℕ). pends c ≡ true) refl refl refl h r.call (both_right (ltb 0 r.b) (w.waits r.call) e) in
+    let p = of_waiting (λ (c : ℕ). waits_for_label c ≡ true) refl refl refl h r.call (both_right (ltb 0 r.b) (w.waits r.call) e) in
     rw (p, both_left (ltb 0 r.b) (w.waits r.call) e)
 
 resolve_room : (t : List ℕ) {w : Waiting} → Waits w → (ms : List Mark) (at n : ℕ) {k : Tally} {i : Ideal} → Room k i
@@ -184,4 +198,4 @@ pub grows : (t : List ℕ) (ls : List ProgramLine)
 unfolding close_up
 grows t ls =
     clean_room (lines_words ls) _ (resolve_room t restores_wait _ 0 _ (resolve_room t jumps_wait _ 0 _
-    ((counts t).fit (grow_lines (counts t) t ls (first_line (rules_r t) t (ideal [] [] [] 0 0)) nothing) (omega arith))))
+    ((counts t).fit (grow_lines (counts_lines t (length ls)) t ls (first_line (rules_r t) t (ideal [] [] [] 0 0)) (omega arith) nothing) (omega arith))))

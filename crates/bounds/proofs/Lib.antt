@@ -4,5 +4,5 @@ pub mod GrowsProgram
 pub mod SheetWords
 pub mod SheetSize
 pub mod Suffices
+pub mod Finished
 pub mod Uncut
-pub mod UncutTree

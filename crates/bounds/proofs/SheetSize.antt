@@ -16,14 +16,15 @@ use Rattle.sheet.specs.declared.form.Shape.TheVariants.{Rem, NoOp, Op0, Run, Op1
 use Rattle.std.specs.Prelude.{Ok}
 use Rattle.sheet.specs.declared.form.Line.{Line}
 use Rattle.sheet.specs.Check.{Accepted}
-use Rattle.sheet.specs.Table.{expr_fields, shape_fields}
+use Rattle.sheet.specs.Table.{expr_fields}
+use Rattle.sheet.specs.Shapes.{shape_fields}
 use Rattle.sheet.specs.Form
 use Rattle.sheet.specs.Check.{checked}
 use Rattle.sheet.specs.Skip.{skip_item, skip_pair, skip_list, skip_times, skip_field, skip_node}
 use Rattle.sheet.specs.Tree
 use Rattle.sheet.proofs.Shapes.{fields_rule}
 use Rattle.walk.proofs.Within.{walked, sheet_within}
-use Rattle.rules.proofs.SheetWalk.{goes_on}
+use Rattle.rules.proofs.SheetWalk.{two_parts}
 use Rattle.bounds.specs.Size
 use Rattle.bounds.proofs.SheetWords.{repeat_count, list_count, source_count, element_count, fields_count, node_count, Takes, takes_at, takes_then, takes_less, takes_test, takes_refuse, takes_choose, word_takes, range_takes, list_takes, node_takes}
 
@@ -225,14 +226,14 @@ module _ (s : List ℕ) where
     lines_past (suc n) base p q e =
         let h = line_takes base p in
         let x = Tree.behind_line s p in
-        let u = goes_on (Form.line_form s t base p) (λ r. Form.lines_form s t n (base + payload_at s p) r) x q h.lands e in
+        let u = two_parts (Form.line_form s t base p) (λ r. Form.lines_form s t n (base + payload_at s p) r) x q h.walk_ends e in
         omega (arith, h.past x u.0, lines_past n (base + payload_at s p) x q u.1)
 
     sheet_past : (q : ℕ) → Form.sheet_form s t ≡ Ok q → Size.program_words (Tree.program_at s) ≤ q
     unfolding Form.sheet_form Tree.program_at
     sheet_past q e =
         let h = word_takes s 15 16777216 0 (omega arith) in
-        let u = goes_on (Form.take_word s 15 16777216 0) (λ p. Form.lines_form s t (payload_at s 0) 0 p) (next s 0) q h.lands e in
+        let u = two_parts (Form.take_word s 15 16777216 0) (λ p. Form.lines_form s t (payload_at s 0) 0 p) (next s 0) q h.walk_ends e in
         omega (arith, h.past (next s 0) u.0, lines_past (payload_at s 0) 0 (next s 0) q u.1)
 
 -- THEOREM: the words that the tree of an accepted sheet stands for are no more than the sheet has

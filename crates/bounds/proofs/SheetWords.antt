@@ -27,8 +27,8 @@ use Rattle.sheet.specs.Form.{then, is_absent, has_unit, is_name_range, take_word
 use Rattle.sheet.specs.Skip.{skip_source, skip_element, skip_item, skip_pair, skip_repeat, skip_list, skip_times, skip_field, skip_fields, skip_node}
 use Rattle.sheet.proofs.Walks.{pick_behind}
 use Rattle.walk.proofs.Cycle.{kind_inside, next_inside, head_moves}
-use Rattle.walk.proofs.Accepted.{Lands, lands_at, lands_never, lands_then, word_lands, head_lands}
-use Rattle.rules.proofs.SheetWalk.{goes_on}
+use Rattle.walk.proofs.Accepted.{EndsAt, ok_ends_at, err_ends_at, ends_at_then, word_ends_at, head_ends_at}
+use Rattle.rules.proofs.SheetWalk.{two_parts}
 
 module _ (s : List ℕ) where
   -- n items, each counted by `f`, the next found by `d`
@@ -89,37 +89,37 @@ module _ (s : List ℕ) where
 
 -- where the walk from p is accepted, it ends at x, and has moved on by at least n
 pub record Takes (n p x : ℕ) (w : Walk) : Type 0 where
-  pub lands : Lands w x
+  pub walk_ends : EndsAt w x
   pub past : (q : ℕ) → w ≡ Ok q → p + n ≤ q
 
 pub takes_at : (x : ℕ) → Takes 0 x x (Ok x)
-takes_at x = record { lands = lands_at x; past = λ q e. let z : x ≡ q = cc in omega arith }
+takes_at x = record { walk_ends = ok_ends_at x; past = λ q e. let z : x ≡ q = cc in omega arith }
 
-takes_never : (n p x : ℕ) (o : Offence) → Takes n p x (Err o)
-takes_never n p x o = record { lands = lands_never o x; past = λ q e. let z : ◌≡◌ {A = ℕ} 0 1 = cc in absurd (omega arith) }
+err_takes : (n p x : ℕ) (o : Offence) → Takes n p x (Err o)
+err_takes n p x o = record { walk_ends = err_ends_at o x; past = λ q e. let z : ◌≡◌ {A = ℕ} 0 1 = cc in absurd (omega arith) }
 
 pub takes_then : {a b p x y : ℕ} {w : Walk} (f : ℕ → Walk) → Takes a p x w → Takes b x y (f x) → Takes (a + b) p y (then w f)
 takes_then {a} {b} {p} {x} {y} {w} f h k = record {
-  lands = lands_then w f x y h.lands k.lands;
-  past = λ q e. let u = goes_on w f x q h.lands e in omega (arith, h.past x u.0, k.past q u.1);
+  walk_ends = ends_at_then w f x y h.walk_ends k.walk_ends;
+  past = λ q e. let u = two_parts w f x q h.walk_ends e in omega (arith, h.past x u.0, k.past q u.1);
 }
 
 pub takes_less : {m n p x : ℕ} {w : Walk} → Takes n p x w → m ≤ n → Takes m p x w
-takes_less h k = record { lands = h.lands; past = λ q e. omega (arith, h.past q e) }
+takes_less h k = record { walk_ends = h.walk_ends; past = λ q e. omega (arith, h.past q e) }
 
 -- a test before what is read
 pub takes_test : {n p x : ℕ} {w : Walk} (b : Bool) (o : Offence) → Takes n p x w → Takes n p x (pick b w (Err o))
 takes_test true o h = h
-takes_test false o h = takes_never _ _ _ o
+takes_test false o h = err_takes _ _ _ o
 
 pub takes_refuse : {n p x : ℕ} {w : Walk} (b : Bool) (o : Offence) → Takes n p x w → Takes n p x (pick b (Err o) w)
-takes_refuse true o h = takes_never _ _ _ o
+takes_refuse true o h = err_takes _ _ _ o
 takes_refuse false o h = h
 
 -- a walk that begins again from the start of another
 takes_again : {n p x : ℕ} {v : Walk} (w : Walk) → Takes n p x v → Takes n p x (then w (λ q. v))
 takes_again (Ok q) h = h
-takes_again (Err o) h = takes_never _ _ _ o
+takes_again (Err o) h = err_takes _ _ _ o
 
 takes_either : {n p x : ℕ} (b : Bool) (f g : ℕ → Walk) → Takes n p x (f p) → Takes n p x (g p) → Takes n p x (choose b f g p)
 takes_either true f g h k = h
@@ -133,14 +133,14 @@ module _ (s : List ℕ) where
   pub word_takes : (k n p : ℕ) → 0 < k → Takes 1 p (next s p) (take_word s k n p)
   unfolding take_word
   word_takes k n p h = record {
-    lands = word_lands s k n p;
+    walk_ends = word_ends_at s k n p;
     past = λ q e.
         let a = pick_behind (both (eqb (kind_at s p) k) (ltb (payload_at s p) n)) (next s p) q (BadWord p) e in
         omega (arith, a.1, next_inside s p (kind_inside s p k h (eqb-true _ _ (both_left _ (ltb (payload_at s p) n) a.0))));
   }
 
   head_takes : (c : Sort) (p : ℕ) → Takes 1 p (next s p) (head_form s c p)
-  head_takes c p = record { lands = head_lands s c p; past = λ q e. omega (arith, (head_moves s c p q (head_form s c p) refl e).1) }
+  head_takes c p = record { walk_ends = head_ends_at s c p; past = λ q e. omega (arith, (head_moves s c p q (head_form s c p) refl e).1) }
 
   high_takes : (e p : ℕ) → Takes 1 p (next s p) (high_form s e p)
   unfolding high_form
@@ -244,7 +244,7 @@ module _ (s : List ℕ) where
     -- THEOREM: the check of an accepted statement or expression moves on by at least its count of words, to the place that the skip finds
     pub node_takes : (left : ℕ) (c : Sort) (p : ℕ) → Takes (node_count s left c p) p (skip_node s left c p) (node_form s t line left c p)
     unfolding node_count skip_node node_form body_form
-    node_takes zero c p = takes_then _ (head_takes c p) (takes_never 1 (next s p) p (TooDeep p))
+    node_takes zero c p = takes_then _ (head_takes c p) (err_takes 1 (next s p) p (TooDeep p))
     node_takes (suc left) c p =
         takes_less
         (takes_then _ (head_takes c p) (takes_then _ (takes_refuse (is_fseek c (payload_at s p)) _ (takes_at _))

@@ -10,7 +10,8 @@ use Rattle.recorder.specs.Layout.{note_size, entry_size, most_records}
 use Rattle.sheet.specs.Check.{Checked}
 use Rattle.sheet.specs.Check.{Accepted}
 use Rattle.std.specs.Prelude.{Ok, Err}
-use Rattle.sheet.specs.Check.{checked, answer_number}
+use Rattle.sheet.specs.Check.{checked}
+use Rattle.sheet.specs.CheckAnswer.{answer_number}
 use Rattle.sheet.proofs.Numbers.{checked_low}
 use Rattle.sheet.specs.Tree.{program_at}
 use Rattle.walk.proofs.Within.{walked}

@@ -1,15 +1,17 @@
 -- Tallies of words, which bound the records, notes and entries that are made, and the recorders whose operations are counted by
--- them.
+-- them, or keep a fact of all that was made.
 use mathlib.Core.Path.{◌≡◌}
 use mathlib.Core.Bool.{Bool, false}
-use Prim.Native.Nat.{ℕ, zero, suc, ◌+◌, ◌*◌, ◌≤◌}
+use Prim.Native.Nat.{ℕ, zero, suc, ◌+◌, ◌*◌, ◌≤◌, ◌<◌}
 use lib.Dec.{eqb}
 use native.Mathlib.Omega.{arith}
 use Rattle.recorder.specs.Word.{either}
 use Rattle.recorder.specs.declared.word.Range.{Range}
 use Rattle.recorder.specs.Recorder.{Recorder}
+use Rattle.recorder.specs.Calls.{Awaited, label_word, range_number, while_call, emit_while, begin_def_fn, error_note, warning_note}
 use Rattle.sheet.specs.Tree.{Expr, ident, string_lit, number_lit, sys_func_call, user_func_call, binary, unary, index, inkey, error, Exprs, none, more, count}
 use Rattle.bounds.specs.Size.{expr_words, exprs_words}
+use Rattle.bounds.specs.Finished.{waits_for_label}
 
 -- So many words were read, so many expressions among them left a value, and so many records, notes and entries were made besides.
 -- That allows 4 words + 3 records - 5 values for three times the records, 2 words + notes - 3 values for the notes, and
@@ -60,24 +62,30 @@ pub record AtMost (k l : Tally) : Type 0 where
   pub entries : k.words + k.entries + l.values ≤ l.words + l.entries + k.values
 
 -- the calls for which closing up may add a note: those that wait for a label, and WHILE
-abbrev pub pends : ℕ → Bool
-pends c = either (eqb c 20) (either (eqb c 21) (eqb c 31))
-
 abbrev pub note_later : ℕ → Bool
-note_later c = either (pends c) (eqb c 25)
+note_later c = either (waits_for_label c) (eqb c while_call)
 
--- P k s: what s holds is within the tally k
+-- P k s: what s holds is within the tally k, or a fact of all that s holds
 pub record Counts {S : Type 0} (R : Recorder S) (P : Tally → S → Type 0) : Type 0 where
   pub emit : {k : Tally} {s : S} {c : ℕ} {r : Range} {x y z : ℕ} → note_later c ≡ false → P k s → P (makes 1 0 0 k) (R.emit s c r x y z)
-  pub emit_any : {k : Tally} {s : S} {c : ℕ} {r : Range} {x y z : ℕ} → P k s → P (makes 1 1 0 k) (R.emit s c r x y z)
-  pub note : {k : Tally} {s : S} {c : ℕ} {r : Range} {v : ℕ} → P k s → P (makes 0 1 0 k) (R.note s c r v)
+  -- a jump or a RESTORE, with what it waits for; a WHILE
+  pub emit_waiting : {k : Tally} {s : S} {c : ℕ} {r : Range} {x : ℕ} (w : Awaited) → P k s → P (makes 1 1 0 k) (R.emit s c r x (label_word w) (range_number w))
+  pub emit_while : {k : Tally} {s : S} {r : Range} {x : ℕ} → P k s → P (makes 1 1 0 k) (emit_while (R.emit s) x r)
+  pub error : {k : Tally} {s : S} {c : ℕ} {r : Range} → P k s → P (makes 0 1 0 k) (R.note s c r error_note)
+  pub warning : {k : Tally} {s : S} {c : ℕ} {r : Range} → P k s → P (makes 0 1 0 k) (R.note s c r warning_note)
   pub symbol : {k : Tally} {s : S} {x n g : ℕ} → P k s → P (makes 0 0 1 k) (R.symbol s x n g).state
   pub datum : {k : Tally} {s : S} {x n q : ℕ} → P k s → P (makes 0 0 1 k) (R.datum s x n q)
   pub byte : {k : Tally} {s : S} {x n v : ℕ} → P k s → P (makes 0 0 1 k) (R.byte s x n v)
   pub patch : {k : Tally} {s : S} {a v : ℕ} → P k s → P k (R.patch s a v)
-  pub patch_end : {k : Tally} {s : S} {a v : ℕ} → P k s → P k (R.patch_end s a v)
-  pub begin_line : {k : Tally} {s : S} {l : ℕ} → P k s → P k (R.begin_line s l)
   pub fit : {k l : Tally} {s : S} → P k s → AtMost k l → P l s
+
+-- so of a program of n lines; while a function's body is made, D a k s says also that the function's call 26 stands at the address a
+pub record CountsLines {S : Type 0} (R : Recorder S) (n : ℕ) (P : Tally → S → Type 0) (D : ℕ → Tally → S → Type 0) : Type 0 where
+  pub counts : Counts R P
+  pub body : (a : ℕ) → Counts R (D a)
+  pub begin_def : {k : Tally} {s : S} {r : Range} {x y : ℕ} → P k s → D (R.count s) (makes 1 0 0 k) (begin_def_fn (R.emit s) x y r)
+  pub end_def : {k : Tally} {s : S} {a v : ℕ} → D a k s → P k (R.patch_end s a v)
+  pub begin_line : {k : Tally} {s : S} {l : ℕ} → l < n → P k s → P k (R.begin_line s l)
 
 pub two_words : (e : Expr) → 2 ≤ expr_words e
 unfolding expr_words

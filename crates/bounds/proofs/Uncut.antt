@@ -19,14 +19,14 @@ use Rattle.sheet.specs.Tree.{ProgramLine, items_at, line_at, behind_line, progra
 use Rattle.sheet.proofs.Walks.{pick_behind}
 use Rattle.walk.proofs.Lines.{then_first, line_fits, long_text}
 use Rattle.walk.proofs.Within.{walked}
-use Rattle.walk.proofs.Accepted.{word_lands, high_lands}
+use Rattle.walk.proofs.Accepted.{word_ends_at, high_ends_at}
 use Rattle.rules.specs.Program.{Lines, compile_line, first_line}
-use Rattle.rules.proofs.SheetWalk.{goes_on}
+use Rattle.rules.proofs.SheetWalk.{two_parts}
 use Rattle.bounds.specs.Uncut.{line_starts, bases_taken, UncutLine, UncutLines, UncutLiteral}
 use Rattle.bounds.proofs.SheetSize.{line_takes}
 
 module _ (s : List ℕ) where
-  word_taken : (k n p q : ℕ) → Form.take_word s k n p ≡ Ok q → (kind_at s p ≡ k) × (payload_at s p < n)
+  pub word_taken : (k n p q : ℕ) → Form.take_word s k n p ≡ Ok q → (kind_at s p ≡ k) × (payload_at s p < n)
   unfolding Form.take_word
   word_taken k n p q e =
       let a = eqb (kind_at s p) k in
@@ -50,8 +50,8 @@ module _ (s : List ℕ) where
       let k = payload_at s at in
       let h = next s at in
       let l = next s h in
-      let u = goes_on (Form.take_word s 10 257 at) (λ p. Form.then (Form.high_form s k p) (λ r. Form.low_form s k r)) h q (word_lands s 10 257 at) e in
-      let v = goes_on (Form.high_form s k h) (λ r. Form.low_form s k r) l q (high_lands s k h) u.1 in
+      let u = two_parts (Form.take_word s 10 257 at) (λ p. Form.then (Form.high_form s k p) (λ r. Form.low_form s k r)) h q (word_ends_at s 10 257 at) e in
+      let v = two_parts (Form.high_form s k h) (λ r. Form.low_form s k r) l q (high_ends_at s k h) u.1 in
       let x = high_taken k h l v.0 in
       let y = low_taken k l q v.1 in
       record { kinds = ((word_taken 10 257 at h u.0).0, x.0, y.0); high = x.1; low = y.1; exact = omega arith }
@@ -78,7 +78,7 @@ module _ (s t : List ℕ) (short : length t ≤ 65536) where
       let v = then_first _ (Form.take_word s 16 4096 p) _ u.0 refl u.1 in
       (word_taken s 16 4096 p v.0 v.1).1
 
-  line_uncut : (base p q : ℕ) → Form.line_form s t base p ≡ Ok q → UncutLine t base (payload_at s p)
+  pub line_uncut : (base p q : ℕ) → Form.line_form s t base p ≡ Ok q → UncutLine t base (payload_at s p)
   line_uncut base p q e =
       let h : base + payload_at s p ≤ length t = line_fits s t base p q (Form.line_form s t base p) refl e in
       record { short = line_short base p q e; within = h; exact = λ n k. omega arith }
@@ -89,14 +89,14 @@ module _ (s t : List ℕ) (short : length t ≤ 65536) where
   lines_uncut (suc n) base p q e =
       let b = base + payload_at s p in
       let x = behind_line s p in
-      let u = goes_on (Form.line_form s t base p) (λ r. Form.lines_form s t n b r) x q (line_takes s t base p).lands e in
+      let u = two_parts (Form.line_form s t base p) (λ r. Form.lines_form s t n b r) x q (line_takes s t base p).walk_ends e in
       (line_uncut base p x u.0, lines_uncut n b x q u.1)
 
   sheet_uncut : (q : ℕ) → Form.sheet_form s t ≡ Ok q → UncutLines t 0 (program_at s)
   unfolding Form.sheet_form program_at
   sheet_uncut q e =
       let n = payload_at s 0 in
-      lines_uncut n 0 (next s 0) q (goes_on (Form.take_word s 15 16777216 0) (λ p. Form.lines_form s t n 0 p) (next s 0) q (word_lands s 15 16777216 0) e).1
+      lines_uncut n 0 (next s 0) q (two_parts (Form.take_word s 15 16777216 0) (λ p. Form.lines_form s t n 0 p) (next s 0) q (word_ends_at s 15 16777216 0) e).1
 
 -- THEOREM: the lines of an accepted sheet, begun where those before them end, stand within the text, and no place in them is cut
 pub starts_uncut : (s t : List ℕ) (work : ℕ) → checked s t work ≡ Accepted → UncutLines t 0 (program_at s)

@@ -1,4 +1,4 @@
 pub mod Size
 pub mod Bounded
+pub mod Finished
 pub mod Uncut
-pub mod Literals

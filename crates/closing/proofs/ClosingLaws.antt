@@ -6,34 +6,34 @@ use Prim.Native.Nat.{ℕ, suc, ◌+◌, ◌*◌, ◌-◌, ◌≤◌, ◌<◌, �
 use lib.Dec.{ltb, eqb}
 use lib.ListN.{length, get_or, set}
 use borrow.Author.Tests.{lt-ltb, le-ltb, eq-eqb, ne_eqb}
-use native.Mathlib.Nat.{pow-le-pow_right, one-le-pow, pow-suc, div-mul-le_self}
+use native.Mathlib.Nat.{pow-le-pow_right, one-le-pow, div-mul-le_self}
 use native.Mathlib.Omega.{arith}
 use Rattle.recorder.specs.Word.{pick, both, either, kind_at, word_of}
 use Rattle.recorder.specs.Ideal.{Rec}
 use Rattle.recorder.specs.Closing.{is_while, is_wend, is_end, up_to, round_up}
 use Rattle.closing.specs.Parts.{passed_of}
 use Rattle.recorder.specs.Mem.{Mem, mem, put_note, link_at, rec_of, set_b, at_rec, while_list, while_top, Passed, passed, open_from, unit_of, sigil_of, unlink_at, unlink_from}
-use Rattle.recorder.proofs.Bools.{never, both_false}
+use Rattle.recorder.proofs.Bools.{true_not_false, both_false}
 
 -- tests in a row
 pub both_no : (a b f : Bool) → f ≡ a → f ≡ false → false ≡ both a b
-both_no true b f e g = never (sym e ∙ g)
+both_no true b f e g = true_not_false (sym e ∙ g)
 both_no false b f e g = refl
 
 pub either_yes : (a b f : Bool) → f ≡ a → f ≡ true → true ≡ either a b
 either_yes true b f e g = refl
-either_yes false b f e g = never (sym g ∙ e)
+either_yes false b f e g = true_not_false (sym g ∙ e)
 
 pub either_no : (a b f x : Bool) → f ≡ a → f ≡ false → x ≡ b → x ≡ either a b
-either_no true b f x e g h = never (sym e ∙ g)
+either_no true b f x e g h = true_not_false (sym e ∙ g)
 either_no false b f x e g h = h
 
 pub pick_yes : {A : Type 0} (c f : Bool) (a b x : A) → f ≡ c → f ≡ true → x ≡ a → x ≡ pick c a b
 pick_yes true f a b x e g h = h
-pick_yes false f a b x e g h = never (sym g ∙ e)
+pick_yes false f a b x e g h = true_not_false (sym g ∙ e)
 
 pub pick_no : {A : Type 0} (c f : Bool) (a b x : A) → f ≡ c → f ≡ false → x ≡ b → x ≡ pick c a b
-pick_no true f a b x e g h = never (sym e ∙ g)
+pick_no true f a b x e g h = true_not_false (sym e ∙ g)
 pick_no false f a b x e g h = h
 
 pub at_beyond : (f : List ℕ → List ℕ) (l : List ℕ) (k : ℕ) → length l / 5 ≤ k → l ≡ at_rec f l k

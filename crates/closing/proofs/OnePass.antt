@@ -12,13 +12,13 @@ use borrow.Author.Tests.{lt-ltb, ltb-true, ltb-false, eqb-true, eqb-false, ne_eq
 use native.Mathlib.Numerals.{add-one}
 use native.Mathlib.Omega.{arith}
 use Rattle.recorder.specs.declared.codegen.State.{State}
-use Rattle.recorder.specs.Recorder.{unknown}
+use Rattle.recorder.specs.Numbers.{unknown}
 use Rattle.recorder.specs.Word.{pick, both, either, word_of}
 use Rattle.recorder.specs.Ideal.{Rec, no_range}
 use Rattle.recorder.specs.Closing.{is_while, is_wend, is_start, is_one, is_end, is_for, is_next_of, round_up}
 use Rattle.recorder.specs.Mem.{Mem, mem, put, known, unlink_from, unlinked, clean_up, put_rec, put_st, note_list, note_st, part, rec_of, set_b, at_rec, link_at, while_list, while_top, whiles_from, top_from, Passed, passed, open_step, open_from, present, patch_whiles, rewrite, no_op_at, whole_at, delay_at, stepped_at, delayed_at, stepped_delayed_at, delay_list, delays_from, convert_delays, clean_up_all}
 use Rattle.recorder.proofs.Words.{head_kind}
-use Rattle.recorder.proofs.Bools.{never, both_left, both_right}
+use Rattle.recorder.proofs.Bools.{true_not_false, both_left, both_right}
 use Rattle.recorder.proofs.Laws.{note_records}
 use Rattle.closing.specs.Parts.{with_passed}
 use Rattle.closing.proofs.ClosingLaws.{at_beyond, while_other}
@@ -119,7 +119,7 @@ keeps_as {G} {H} {l} h e f = record {
 }
 
 differ : (l : List ℕ) (k j : ℕ) → is_while (rec_of l k) ≡ true → is_while (rec_of l j) ≡ false → k ≡ j → ⊥
-differ l k j w n e = never (sym w ∙ ap (λ (i : ℕ). is_while (rec_of l i)) e ∙ n)
+differ l k j w n e = true_not_false (sym w ∙ ap (λ (i : ℕ). is_while (rec_of l i)) e ∙ n)
 
 -- a record rewritten that is neither WHILE nor WEND, before and afterwards
 module _ (l : List ℕ) (j call a b c : ℕ) (h : is_while (rec_of l j) ≡ false) (g : is_wend (rec_of l j) ≡ false) (h' : eqb call 25 ≡ false) (g' : both (eqb call 2) (eqb a 62) ≡ false) where
@@ -268,8 +268,8 @@ module _ (l : List ℕ) (j : ℕ) where
       go true true e t =
           let p = plain_for 0 (rec_of l (j + 2)) (rec_of l (j + 3)) t in
           keeps_then (keeps_then (keeps_ended e) (j + 2) 2 65 1 0 p.0 refl refl) (j + 3) 1 0 0 0 p.1 refl refl
-      go true false e t = never (sym t)
-      go false b e t = never (sym t)
+      go true false e t = true_not_false (sym t)
+      go false b e t = true_not_false (sym t)
 
   keeps_stepped : stepped_at l j ≡ true → Keeps (λ (m : List ℕ). stepped_delayed_at m j) l
   unfolding stepped_at stepped_delayed_at
@@ -280,9 +280,9 @@ module _ (l : List ℕ) (j : ℕ) where
           let p = plain_for 1 (rec_of l (j + 3)) (rec_of l (j + 4)) t in
           let o = plain_call_lem (rec_of l (j + 2)) 3 (both_left (eqb (rec_of l (j + 2)).call 3) (both (eqb (rec_of l (j + 2)).a 129) (eqb (rec_of l (j + 2)).b 2147483648)) f) refl refl in
           keeps_then (keeps_then (keeps_then (keeps_ended e) (j + 2) 1 0 0 0 o refl refl) (j + 3) 2 65 1 0 p.0 refl refl) (j + 4) 1 0 0 0 p.1 refl refl
-      go true true false e f t = never (sym t)
-      go true false c e f t = never (sym t)
-      go false b c e f t = never (sym t)
+      go true true false e f t = true_not_false (sym t)
+      go true false c e f t = true_not_false (sym t)
+      go false b c e f t = true_not_false (sym t)
 
   pub keeps_delay : Keeps (λ (m : List ℕ). delay_list m j) l
   unfolding delay_list
@@ -325,7 +325,7 @@ wend_there l k e = go (ltb (5 * k) (length l)) refl
     go true x = ltb-true (5 * k) (length l) x
     go false x =
         let z : get_or l (5 * k) 0 ≡ 0 = get_or-eq_default l 0 {n = 5 * k} (ltb-false (5 * k) (length l) x) in
-        never (sym e ∙ rw z)
+        true_not_false (sym e ∙ rw z)
 
 -- the open WHILEs behind a step
 opens_step : (l : List ℕ) (top k : ℕ) → OpenWhiles l top → top ≤ k → OpenWhiles (while_list l top k) (while_top l top k) × (while_top l top k ≤ k + 1)
@@ -461,8 +461,8 @@ no_delay : (l : List ℕ) (k : ℕ) → ((rec_of l k).call ≡ 3 → ⊥) → de
 unfolding delay_list delay_at stepped_at
 no_delay l k n = rw (ne_eqb (rec_of l k).call 3 n)
 
-pub loop-delay : (l l' : List ℕ) (top k c : ℕ) → c ≡ (rec_of l k).call → c ≡ 3 → l' ≡ delay_list l k → (l' ≡ while_list (delay_list l k) top k) × (top ≡ while_top (delay_list l k) top k)
-loop-delay l l' top k c e f g =
+pub loop_delay : (l l' : List ℕ) (top k c : ℕ) → c ≡ (rec_of l k).call → c ≡ 3 → l' ≡ delay_list l k → (l' ≡ while_list (delay_list l k) top k) × (top ≡ while_top (delay_list l k) top k)
+loop_delay l l' top k c e f g =
     let t : (rec_of l k).call ≡ 3 = sym e ∙ f in
     let r = rec_of (delay_list l k) k in
     let h : is_while r ≡ false = (keeps_delay l k).whiles k ∙ rw t in
@@ -470,15 +470,15 @@ loop-delay l l' top k c e f g =
     let q = while_other (delay_list l k) top k r.call (is_wend r) refl (eqb-false r.call 25 h) refl i in
     (g ∙ q.0, q.1)
 
-pub loop-while : (l l' : List ℕ) (top top' k c : ℕ) → c ≡ (rec_of l k).call → (c ≡ 2) ⊎ (c ≡ 25) → (l' ≡ while_list l top k) × (top' ≡ while_top l top k) → (l' ≡ while_list (delay_list l k) top k) × (top' ≡ while_top (delay_list l k) top k)
-loop-while l l' top top' k c e f g = rw (no_delay l k (λ z. go f (e ∙ z))) g
+pub loop_while : (l l' : List ℕ) (top top' k c : ℕ) → c ≡ (rec_of l k).call → (c ≡ 2) ⊎ (c ≡ 25) → (l' ≡ while_list l top k) × (top' ≡ while_top l top k) → (l' ≡ while_list (delay_list l k) top k) × (top' ≡ while_top (delay_list l k) top k)
+loop_while l l' top top' k c e f g = rw (no_delay l k (λ z. go f (e ∙ z))) g
   where
     go : (c ≡ 2) ⊎ (c ≡ 25) → c ≡ 3 → ⊥
     go (inl x) y = omega arith
     go (inr x) y = omega arith
 
-pub loop-other : (l : List ℕ) (top k c : ℕ) → c ≡ (rec_of l k).call → (c ≡ 3 → ⊥) → ((c ≡ 2) ⊎ (c ≡ 25) → ⊥) → (l ≡ while_list (delay_list l k) top k) × (top ≡ while_top (delay_list l k) top k)
-loop-other l top k c e f g =
+pub loop_other : (l : List ℕ) (top k c : ℕ) → c ≡ (rec_of l k).call → (c ≡ 3 → ⊥) → ((c ≡ 2) ⊎ (c ≡ 25) → ⊥) → (l ≡ while_list (delay_list l k) top k) × (top ≡ while_top (delay_list l k) top k)
+loop_other l top k c e f g =
     let n : (rec_of l k).call ≡ 2 → ⊥ = λ z. g (inl (e ∙ z)) in
     rw (no_delay l k (λ z. f (e ∙ z))) (while_other l top k c false e (λ z. g (inr z)) (rw (ne_eqb (rec_of l k).call 2 n)) refl)
 

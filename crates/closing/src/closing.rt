@@ -1,9 +1,11 @@
 // Closing up what is the recorder's: the WHILEs, the delays, End.
 ghost use Rattle.std.specs.Prelude.{◌≡◌, ◌+◌, ◌*◌, ◌/◌, ◌≤◌, ◌<◌, min, get_or, eqb, ltb, length, Some, None};
-ghost use Rattle.recorder.specs.Calls.{numbers_of};
+ghost use Rattle.recorder.specs.Calls.{while_without_wend, error_note};
+ghost use Rattle.recorder.specs.CallNumbers.{numbers_of};
 ghost use Rattle.recorder.specs.Word.{pick, both, word_of, flag_of};
 ghost use Rattle.recorder.specs.Closing.{is_one, is_start, is_end, is_for, is_next_of, round_up};
-ghost use Rattle.recorder.specs.Layout.{rec_size, range_word_at, most_records};
+ghost use Rattle.recorder.specs.Layout.{rec_size, most_records};
+ghost use Rattle.recorder.specs.Offsets.{range_word_at};
 ghost use Rattle.recorder.specs.CodeGen.{mem_of, SameLoans};
 ghost use Rattle.closing.specs.Parts.{passed_of, with_passed};
 ghost use Rattle.recorder.specs.Mem.{put_note, rec_of, set_b, at_rec, while_list, while_top, whiles_from, top_from, open_from, set_head, rewrite, unit_of, whole_at, delay_at, stepped_at, delayed_at, stepped_delayed_at, delay_list, delays_from, clean_up, sigil_of, unlink_at, unlink_from, unlinked};
@@ -13,6 +15,8 @@ use recorder::codegen::{
     A, B, C, CodeGen, DOLLAR_CODE, ENTRY, EXTRA, EntryKind, PERCENT_CODE, RANGE, RECORD, call_of,
     most_records, set_at, start_of,
 };
+use recorder::label::Addr;
+use recorder::number::{BIAS, LEAST_MANTISSA, ONE, WORD_SIZE};
 use recorder::unit::{DOLLAR, PERCENT};
 use recorder::word::{Range, kind_at, word_at, word_of};
 
@@ -72,46 +76,54 @@ fn present_of(words: usize, records: usize) -> u16
 }
 
 #[tactic(auto, unfolding(recorder::specs::Mem::at_rec, recorder::specs::Mem::part))]
-fn set_b_at(list: &mut [u32], k: u32, v: u32)
-    ensures { list.new ≡ at_rec (set_b v) list.old k }
+fn set_b_at(list: &mut [u32], at: Addr, v: u32)
+    ensures { list.new ≡ at_rec (set_b v) list.old at.0 }
 {
-    if let Some(from) = start_of(list, k) {
+    if let Some(from) = start_of(list, at.0) {
         set_at(&mut list[from..], B, v);
     }
 }
 
-// The record at k of the pass over the WHILEs. The open ones are a pile in the list's own words, since there is no heap: `top`, and what
-// is returned, is the word that the next WHILE keeps, the last open one's address plus 1, or 0; an Option would be turned back into it.
+// The end of the WHILE at an address.
+fn patch_while_end(list: &mut [u32], at: Addr, end: Addr)
+    ensures { list.new ≡ at_rec (set_b end.0) list.old at.0 }
+{
+    set_b_at(list, at, end.0)
+}
+
+// The record at k of the pass over the WHILEs. The open ones are a pile of addresses in the list's own words, since there is no heap:
+// `top`, and what is returned, is the word that the next WHILE keeps, the last open one's address plus 1, or 0; an Option would be turned
+// back into it.
 #[tactic(auto, unfolding(recorder::specs::Mem::while_list, recorder::specs::Mem::while_top))]
 fn while_step(list: &mut [u32], top: u32, k: u16) -> u32
     ensures { (list.new ≡ while_list list.old top k) × (result ≡ while_top list.old top k) }
 {
-    let at = k as u32;
-    if is_call(list, at, WHILE) {
+    let at = Addr(k as u32);
+    if is_call(list, at.0, WHILE) {
         set_b_at(list, at, top);
-        return at + 1;
+        return at.0 + 1;
     }
-    if top == 0 || !is_call_with(list, at, OP, WEND) {
+    if top == 0 || !is_call_with(list, at.0, OP, WEND) {
         return top;
     }
-    let w = top - 1;
-    let link = b_of(list, w);
-    set_b_at(list, w, at + 1);
+    let w = Addr(top - 1);
+    let link = b_of(list, w.0);
+    patch_while_end(list, w, Addr(at.0 + 1));
     link
 }
 
 // The same of a CodeGen: a function that is lent it to write reads a word of the list through one that is lent it to read.
-fn code_word(code: &CodeGen, k: u32, i: usize) -> u32
+fn code_word(code: &CodeGen, at: Addr, i: usize) -> u32
     requires { i < rec_size }
-    ensures { result ≡ get_or code.now.list.now (rec_size * k + i) 0 }
+    ensures { result ≡ get_or code.now.list.now (rec_size * at.0 + i) 0 }
 {
-    record_word(code.list, k, i)
+    record_word(code.list, at.0, i)
 }
 
 // The note on a WHILE without WEND: its record's line and range.
-fn open_note(code: &mut CodeGen, w: u32)
+fn open_note(code: &mut CodeGen, w: Addr)
     ensures same { SameLoans code.old code.new }
-    ensures value { mem_of code.new ≡ put_note (mem_of code.old) (word_of 13 (get_or code.old.list.now (rec_size * w) 0)) (get_or code.old.list.now (rec_size * w + range_word_at) 0) 1 }
+    ensures value { mem_of code.new ≡ put_note (mem_of code.old) (word_of while_without_wend (get_or code.old.list.now (rec_size * w.0) 0)) (get_or code.old.list.now (rec_size * w.0 + range_word_at) 0) error_note }
 {
     let line = code_word(code, w, 0);
     let range = code_word(code, w, RANGE);
@@ -129,7 +141,7 @@ fn open_whiles(code: &mut CodeGen, top: u32, n: u16)
         if t == 0 {
             return;
         }
-        let w = t - 1;
+        let w = Addr(t - 1);
         t = code_word(code, w, B);
         open_note(code, w);
         set_b_at(code.list, w, UNKNOWN);
@@ -170,7 +182,7 @@ fn unit_of(e: u32) -> u64
     requires { (129 ≤ e) × (e < 160) }
     ensures { (result ≡ unit_of e) × (0 < result) × (result ≤ 2147483648) }
 {
-    2_u64.pow(160 - e)
+    2_u64.pow(BIAS - e)
 }
 
 impl Number {
@@ -180,18 +192,18 @@ impl Number {
     {
         let e = self.e;
         let m = self.m;
-        if e < 129 {
+        if e < ONE {
             return Number {
-                e: 129,
-                m: 2147483648,
+                e: ONE,
+                m: LEAST_MANTISSA,
             };
         }
-        if 160 <= e {
+        if BIAS <= e {
             return Number { e, m };
         }
         let unit = unit_of(e);
         let up = (m as u64 + unit - 1) / unit * unit;
-        if up < 4294967296 {
+        if up < WORD_SIZE {
             return Number { e, m: up as u32 };
         }
         Number {
@@ -218,7 +230,7 @@ fn whole_at(list: &mut [u32], k: u32)
 fn is_one(list: &[u32], k: u32) -> bool
     ensures { result ≡ is_one (rec_of list.now k) }
 {
-    is_call(list, k, NUMBER) && a_of(list, k) == 129 && b_of(list, k) == 2147483648
+    is_call(list, k, NUMBER) && a_of(list, k) == ONE && b_of(list, k) == LEAST_MANTISSA
 }
 
 // "number zero or one": zero has the exponent 0.

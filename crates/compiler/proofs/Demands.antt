@@ -10,7 +10,8 @@ use Rattle.recorder.specs.Word.{pick}
 use Rattle.recorder.specs.Layout.{note_size, entry_size, most_records}
 use Rattle.sheet.specs.Check.{Checked}
 use Rattle.std.specs.Prelude.{Ok, Err}
-use Rattle.sheet.specs.Check.{checked, refusal_number, refusal_place, answer_place}
+use Rattle.sheet.specs.Check.{checked, refusal_number, refusal_place}
+use Rattle.sheet.specs.CheckAnswer.{answer_place}
 use Rattle.sheet.proofs.Numbers.{refusal_some, refusal_low}
 use Rattle.sheet.specs.Tree.{program_at}
 use Rattle.walk.proofs.Within.{place_within}

@@ -1,2 +1,3 @@
 pub mod Answered
+pub mod Inside
 pub mod Demanded

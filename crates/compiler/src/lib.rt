@@ -2,13 +2,15 @@
 #![tactic(auto)]
 
 ghost use Rattle.std.specs.Prelude.{◌≡◌, ◌*◌, ◌<◌, length, replicate};
+ghost use Rattle.recorder.specs.Numbers.{sheet_limit};
 ghost use Rattle.recorder.specs.Word.{payload_at};
 ghost use Rattle.recorder.specs.Mem.{mem, nothing};
 ghost use Rattle.recorder.specs.CodeGen.{mem_of, SameLoans};
 ghost use Rattle.sheet.specs.Check.{refusal_number, refusal_place};
 ghost use Rattle.rules.specs.Outcome.{lengths, refused, finished, sized, outcome};
 ghost use Rattle.rules.specs.MemAnswer.{mem_sized};
-ghost use Rattle.compiler.specs.Answered.{outcome_of, outcome_in, lengths_in};
+ghost use Rattle.compiler.specs.Answered.{outcome_of};
+ghost use Rattle.compiler.specs.Inside.{outcome_in, lengths_in};
 
 use recorder::codegen::{CodeGen, State, clear, most_records};
 use sheet::form::Refusal;
@@ -68,7 +70,7 @@ fn sized_up(code: &mut CodeGen, work: &mut [u32]) -> Answer
 // memory has none; a Source is made for each line, since it says where that begins.
 fn compile_accepted(sheet: &[u32], text: &[u16], code: &mut CodeGen, work: &mut [u32]) -> Answer
     ensures same { SameLoans code.old code.new }
-    ensures value { code.old.st ≡ nothing → 3 * payload_at sheet.now 0 < length work.old → payload_at sheet.now 0 < 65536 → outcome_in result code.new work.new ≡ sized (finished sheet.now text.now) (lengths_in code.old work.old) }
+    ensures value { code.old.st ≡ nothing → 3 * payload_at sheet.now 0 < length work.old → payload_at sheet.now 0 < sheet_limit → outcome_in result code.new work.new ≡ sized (finished sheet.now text.now) (lengths_in code.old work.old) }
 {
     clear_all(code, work);
     let n = program::line::compile_prog(sheet, text, code, work);

@@ -17,7 +17,8 @@ use Rattle.rules.specs.Stmt.{compile_stmt, dim_node, dim_one, compile_field}
 use Rattle.std.specs.Prelude.{Option}
 use Rattle.nodes.specs.Compiled.{opt_of, CompiledArgs, CompiledTyped, PayloadAt}
 use Rattle.expressions.specs.Body.{Body}
-use Rattle.expressions.proofs.Lists.{items_length, place_same}
+use Rattle.sheet.proofs.Lists.{items_length}
+use Rattle.expressions.proofs.Lists.{place_same}
 use Rattle.expressions.proofs.ExprLaws.{Head, node, over, how_many_lem}
 use Rattle.declarations.specs.Parts.{Dimmed, pair_on, FieldsDone}
 

@@ -4,7 +4,8 @@ use Rattle.recorder.specs.declared.word.Range.{Range}
 use Rattle.recorder.specs.Mem.{Mem, mem_r}
 use Rattle.sheet.specs.declared.form.Sort.TheVariants.{Expr as exprSort}
 use Rattle.sheet.specs.Skip.{skip_node, skip_repeat}
-use Rattle.sheet.specs.Tree.{Opt, Datum, expr_at, items_at, datum_at, field_spec_at, args_at}
+use Rattle.sheet.specs.Tree.{Opt, Datum, expr_at, items_at, datum_at, field_spec_at}
+use Rattle.sheet.specs.Args.{args_at}
 use Rattle.rules.specs.Stmt.{def_node, compile_data, dim_one, compile_dim, compile_fields}
 use Rattle.expressions.specs.Lists.{two_on}
 use Rattle.declarations.specs.declared.data.Datum.{Datum as DatumWords}

@@ -11,6 +11,7 @@ ghost use Rattle.declarations.specs.Parts.{datum_of, DataDone};
 use nodes::source::Source;
 use recorder::call::Class;
 use recorder::codegen::CodeGen;
+use recorder::number::TEXT_LIMIT;
 use recorder::word::Range;
 
 // A datum of the sheet. `quoted` is a word of it and goes into the book as it stands, so it is no bool.
@@ -51,7 +52,7 @@ fn datum_node(src: &Source, code: &mut CodeGen, d: Datum)
     let n = d.length(src);
     let a = d.start(src.base);
     code.emit_datum(a, n, d.quoted);
-    if 255 < n {
+    if TEXT_LIMIT < n {
         code.note(Class::TextTooLong, d.range)
     }
 }

@@ -1,15 +1,13 @@
 -- Lists in the sheet: one turn of a loop over them, and lists that are passed over in the same way.
-use mathlib.Core.Path.{◌≡◌, refl, ap}
+use mathlib.Core.Path.{◌≡◌, refl}
 use mathlib.Core.List.{List}
 use Prim.Native.Nat.{ℕ, zero, suc, ◌+◌, ◌-◌, ◌≤◌, ◌<◌}
-use lib.ListN.{length}
 use native.Mathlib.Omega.{arith}
 use Rattle.recorder.specs.declared.codegen.CodeGen.{CodeGen}
 use Rattle.recorder.specs.CodeGen.{mem_of, SameLoans}
 use Rattle.recorder.specs.Mem.{Mem}
 use Rattle.sheet.specs.declared.form.Sort.TheVariants.{Expr as exprSort, Place as placeSort, InputPlace as inputSort}
 use Rattle.sheet.specs.Skip.{skip_node, skip_repeat}
-use Rattle.sheet.specs.Tree.{items_at}
 
 -- a loop over n, of which i are done: one more is left, or none
 pub more_left : (n i : ℕ) → i < n → n - i ≡ suc (n - (i + 1))
@@ -27,12 +25,6 @@ Turns s skip make n i at p old new = record {
   place : skip_repeat s skip (n - i) p ≡ skip_repeat s skip n at;
   result : make (n - i) p (mem_of new) ≡ make n at (mem_of old);
 }
-
--- a list of n has n
-pub items_length : {A : Type 0} (s : List ℕ) (f : ℕ → A) (g : ℕ → ℕ) (n at : ℕ) → length (items_at s f g n at) ≡ n
-unfolding items_at
-items_length s f g zero at = refl
-items_length s f g (suc n) at = ap suc (items_length s f g n (g at))
 
 -- places to store and places of INPUT are passed over as expressions are
 pub place_same : (s : List ℕ) (left : ℕ) → skip_node s left placeSort ≡ skip_node s left exprSort

@@ -3,7 +3,7 @@ use Rattle.std.specs.Prelude.{◌≡◌, List, ℕ}
 use Rattle.recorder.specs.declared.word.Range.{Range}
 use Rattle.recorder.specs.Mem.{Mem, mem_r}
 use Rattle.sheet.specs.declared.form.Shape.{Shape}
-use Rattle.sheet.specs.Table.{shape_fields}
+use Rattle.sheet.specs.Shapes.{shape_fields}
 use Rattle.sheet.specs.Skip.{skip_node, skip_fields}
 use Rattle.sheet.specs.Tree.{Stmt, stmt_node}
 use Rattle.rules.specs.Stmt.{compile_stmt}

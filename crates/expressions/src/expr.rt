@@ -10,6 +10,7 @@ ghost use Rattle.nodes.specs.Compiled.{Compiled, CompiledArgs, CompiledTyped, Co
 use nodes::source::Source;
 use recorder::call::Call;
 use recorder::codegen::CodeGen;
+use recorder::number::HALF_SIZE;
 use recorder::word::Range;
 use rules::tables::Wants;
 use rules::types::Type;
@@ -74,7 +75,7 @@ fn mantissa_at(sheet: &[u32], at: usize) -> u32
 {
     let h = recorder::word::payload_at(sheet, at);
     let l = recorder::word::payload_at(sheet, recorder::word::behind(sheet, at));
-    h % 65536 * 65536 + l % 65536
+    h % HALF_SIZE * HALF_SIZE + l % HALF_SIZE
 }
 
 // A node's number, range and place behind are read line by line, here and in four more functions: a struct of them would be taken apart

@@ -14,11 +14,12 @@ use Rattle.sheet.specs.declared.form.Sort.TheVariants.{Expr as exprSort}
 use Rattle.sheet.specs.declared.form.Shape.TheVariants.{Input}
 use Rattle.sheet.specs.declared.form.SourceKind.{SourceKind}
 use Rattle.sheet.specs.declared.form.SourceKind.TheVariants.{Keyboard, KeyboardWithPrompt, File}
-use Rattle.sheet.specs.Table.{source_kind}
+use Rattle.sheet.specs.Kinds.{source_kind}
 use Rattle.sheet.proofs.Cases.{keyboard_number, prompt_number, file_number}
 use Rattle.std.proofs.Common.{◌⊎◌, inl, inr}
 use Rattle.sheet.specs.Skip.{skip_node, skip_list, skip_fields, skip_field, skip_times, skip_pair, skip_item}
-use Rattle.sheet.specs.Tree.{Expr, Stmt, expr_range, count, expr_at, expr_node, opt_at, stmt_node, source_of, args_at}
+use Rattle.sheet.specs.Tree.{Expr, Stmt, expr_range, count, expr_at, expr_node, opt_at, stmt_node, source_of}
+use Rattle.sheet.specs.Args.{args_at}
 use Rattle.rules.specs.declared.types.«Type».{«Type» as Ty}
 use Rattle.rules.specs.Expr.{opt_real_sym, compile_lvalue}
 use Rattle.rules.specs.Stmt.{compile_stmt, is_ident, is_file, input_arg_by, fn_place, input_fn, fn_input, input_var, input_source, compile_input}

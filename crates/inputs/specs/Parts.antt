@@ -3,7 +3,8 @@ use Rattle.std.specs.Prelude.{◌≡◌, List, Bool, ℕ}
 use Rattle.recorder.specs.Mem.{Mem, mem_r}
 use Rattle.sheet.specs.declared.form.Sort.TheVariants.{Expr as exprSort}
 use Rattle.sheet.specs.Skip.{skip_node, skip_repeat}
-use Rattle.sheet.specs.Tree.{expr_at, args_at}
+use Rattle.sheet.specs.Tree.{expr_at}
+use Rattle.sheet.specs.Args.{args_at}
 use Rattle.rules.specs.Stmt.{input_var, input_vars}
 
 -- a variable of INPUT at a place, and whether it is read from a file; n of them from a place on

@@ -11,7 +11,7 @@ use Rattle.recorder.specs.Mem.{Mem, mem_r}
 use Rattle.sheet.specs.declared.form.Shape.TheVariants.{Restore}
 use Rattle.sheet.specs.Skip.{skip_fields, skip_field, skip_times, skip_pair, skip_item}
 use Rattle.sheet.specs.Tree.{OnTarget, stmt_node, opt_at, target_at, behind_label}
-use Rattle.rules.specs.Stmt.{go_call, pending_jump, compile_restore, label_or0, on_jumps, compile_stmt}
+use Rattle.rules.specs.Stmt.{pending_jump, compile_restore, label_or0, on_jumps, compile_stmt}
 use Rattle.expressions.specs.Body.{Body}
 use Rattle.std.specs.Prelude.{Option}
 use Rattle.jumps.specs.Parts.{target_of}
@@ -23,14 +23,14 @@ restore_of s t base left k r p q o m m1 ho e f = record { place = f; result = λ
 
 -- ON
 -- whether an ON's jumps are GOSUB's is told by its number
-same_go : (n : ℕ) → go_call (flag_of (eqb n 1)) ≡ go_call n
-same_go n = go (eqb n 1)
+same_sub : (n : ℕ) → eqb (flag_of (eqb n 1)) 1 ≡ eqb n 1
+same_sub n = go (eqb n 1)
   where
-    go : (b : Bool) → ◌≡◌ {A = ℕ} (pick (eqb (flag_of b) 1) 21 20) (pick b 21 20)
+    go : (b : Bool) → eqb (flag_of b) 1 ≡ b
     go true = refl
     go false = refl
 
 pub same_jumps : (t : List ℕ) (base n : ℕ) (gs : List OnTarget) (m : Mem) → on_jumps (mem_r t) t base (flag_of (eqb n 1)) gs m ≡ on_jumps (mem_r t) t base n gs m
 unfolding on_jumps
 same_jumps t base n [] m = refl
-same_jumps t base n (g ∷ gs) m = rw (same_go n) (same_jumps t base n gs (pending_jump (mem_r t) t base n g.range (label_or0 g.label) g.range m))
+same_jumps t base n (g ∷ gs) m = rw (same_sub n) (same_jumps t base n gs (pending_jump (mem_r t) t base n g.range (label_or0 g.label) g.range m))

@@ -161,7 +161,7 @@ fn behind_targets(sheet: &[u32], at: usize, n: u32) -> usize
 }
 
 // The targets stand before the flag that says whether they are GOSUB's.
-#[tactic(auto, unfolding(sheet::specs::Tree::stmt_node, rules::specs::Stmt::compile_stmt, sheet::specs::Skip::skip_fields, sheet::specs::Skip::skip_field, sheet::specs::Skip::skip_times, sheet::specs::Skip::skip_pair, sheet::specs::Skip::skip_item, rules::specs::Stmt::compile_on, sheet::specs::Skip::skip_list), using(expressions::proofs::Lists::items_length, crate::proofs::JumpLaws::same_jumps))]
+#[tactic(auto, unfolding(sheet::specs::Tree::stmt_node, rules::specs::Stmt::compile_stmt, sheet::specs::Skip::skip_fields, sheet::specs::Skip::skip_field, sheet::specs::Skip::skip_times, sheet::specs::Skip::skip_pair, sheet::specs::Skip::skip_item, rules::specs::Stmt::compile_on, sheet::specs::Skip::skip_list), using(sheet::proofs::Lists::items_length, crate::proofs::JumpLaws::same_jumps))]
 pub fn compile_on(src: &Source, code: &mut CodeGen, at: usize, left: usize, r: Range) -> usize
     ensures same { SameLoans code.old code.new }
     ensures value { (k : ℕ) → Body src.now.sheet.now src.now.text.now src.now.base left Shape.On k r at (mem_of code.old) (mem_of code.new) result }

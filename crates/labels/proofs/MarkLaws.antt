@@ -11,7 +11,7 @@ use native.Mathlib.Omega.{arith}
 use Rattle.std.specs.Prelude.{Option, None, Some}
 use Rattle.std.specs.Option.{SomeIff, option_or}
 use Rattle.recorder.specs.declared.label.DatumIndex.{DatumIndex}
-use Rattle.recorder.specs.Word.{plus_one}
+use Rattle.recorder.specs.Optional.{plus_one}
 use Rattle.recorder.specs.Ideal.{Search, missing, found}
 use Rattle.recorder.specs.Marks.{Mark, or_else, addr_of, data_of}
 use Rattle.labels.specs.MarkWords.{target_found, start_found}
@@ -52,25 +52,25 @@ module _ (w : List ℕ) (n h : ℕ) (ms : List Mark) (c : Chained w n h n ms) (k
 
 -- on the way down a chain: the line k comes next
 module _ (w : List ℕ) (n h l : ℕ) (ms : List Mark) (c : Chained w n h n ms) where
-  on_way : (f : List Mark → Search) (p k : ℕ) (o : Search) → p ≡ suc k → Seeking f l h ms p o → k < n
-  on_way f p k o e s = omega (arith, s.within, c.count)
+  seeking_within : (f : List Mark → Search) (p k : ℕ) (o : Search) → p ≡ suc k → Seeking f l h ms p o → k < n
+  seeking_within f p k o e s = omega (arith, s.within, c.count)
 
-  abbrev pub Aiming : ℕ → Type 0
-  Aiming p = Seeking (addrs l) l h ms p (addr_of ms l)
+  abbrev pub SeekingAddr : ℕ → Type 0
+  SeekingAddr p = Seeking (addrs l) l h ms p (addr_of ms l)
 
-  pub target_start : (p : ℕ) → p ≡ last_in h ms (l % h) n → Aiming p
+  pub target_start : (p : ℕ) → p ≡ last_in h ms (l % h) n → SeekingAddr p
   target_start p e = seek_head (addrs l) l h ms (addrs_skip l) p n (addr_of ms l) c.count e refl
 
-  pub target_none : (p : ℕ) → p ≡ 0 → Aiming p → None ≡ target_found (addr_of ms l)
+  pub target_none : (p : ℕ) → p ≡ 0 → SeekingAddr p → None ≡ target_found (addr_of ms l)
   unfolding addr_of
   target_none p e s = ap target_found (ap (λ (x : ℕ). addrs l (take x ms)) (sym e) ∙ s.rest)
 
-  module _ (p k : ℕ) (b : Bool) (e : p ≡ suc k) (d : k < n → b ≡ eqb (label_of ms k) l) (s : Aiming p) where
+  module _ (p k : ℕ) (b : Bool) (e : p ≡ suc k) (d : k < n → b ≡ eqb (label_of ms k) l) (s : SeekingAddr p) where
     here : k < n
-    here = on_way (addrs l) p k (addr_of ms l) e s
+    here = seeking_within (addrs l) p k (addr_of ms l) e s
 
     -- its label is another
-    pub target_link : (q : ℕ) → b ≡ false → (k < n → q ≡ last_in h ms (label_of ms k % h) k) → Aiming q
+    pub target_link : (q : ℕ) → b ≡ false → (k < n → q ≡ last_in h ms (label_of ms k % h) k) → SeekingAddr q
     target_link q t g =
         seek_link (addrs l) l h ms (addrs_skip l) (addrs l) p k q (addr_of ms l) s e (g here)
         (addr_past ms l k (omega (arith, c.count, here)) (eqb-false (label_of ms k) l (sym (d here) ∙ t)))
@@ -96,21 +96,21 @@ start_or missing o = refl
 start_or (found d) o = refl
 
 module _ (w : List ℕ) (n h l : ℕ) (ms : List Mark) (c : Chained w n h n ms) where
-  abbrev pub Dating : ℕ → Option DatumIndex → Type 0
-  Dating p o = Seeking (data_or l (start_search o)) l h ms p (data_of ms l)
+  abbrev pub SeekingDatum : ℕ → Option DatumIndex → Type 0
+  SeekingDatum p o = Seeking (data_or l (start_search o)) l h ms p (data_of ms l)
 
   -- its datum
   pub datum_link : (p k q : ℕ) (o o' x : Option DatumIndex) → p ≡ suc k → (k < n → x ≡ start_found (datum_here ms l k)) → o' ≡ option_or x o → (k < n → q ≡ last_in h ms (label_of ms k % h) k)
-      → Dating p o → Dating q o'
+      → SeekingDatum p o → SeekingDatum q o'
   datum_link p k q o o' x e a b g s =
-      let i = on_way w n h l ms c (data_or l (start_search o)) p k _ e s in
+      let i = seeking_within w n h l ms c (data_or l (start_search o)) p k _ e s in
       let z : start_search o' ≡ or_else (datum_here ms l k) (start_search o) = ap start_search (b ∙ ap (λ (y : Option DatumIndex). option_or y o) (a i)) ∙ start_or (datum_here ms l k) o in
       seek_link (data_or l (start_search o')) l h ms (data_skip l (start_search o')) (data_or l (start_search o)) p k q (data_of ms l) s e (g i)
       (ap (λ (y : Search). data_or l y (take k ms)) z ∙ data_past ms l k (start_search o) (omega (arith, c.count, i)))
 
-  pub datum_start_lem : (p : ℕ) → p ≡ last_in h ms (l % h) n → Dating p None
+  pub datum_start_lem : (p : ℕ) → p ≡ last_in h ms (l % h) n → SeekingDatum p None
   datum_start_lem p e = seek_head (data_or l missing) l h ms (data_skip l missing) p n (data_of ms l) c.count e (or_missing (data_of ms l))
 
-  pub datum_end : (p : ℕ) (o : Option DatumIndex) → p ≡ 0 → Dating p o → o ≡ start_found (data_of ms l)
+  pub datum_end : (p : ℕ) (o : Option DatumIndex) → p ≡ 0 → SeekingDatum p o → o ≡ start_found (data_of ms l)
   unfolding data_of
   datum_end p o e s = start_again o ∙ ap start_found (ap (λ (x : ℕ). data_or l (start_search o) (take x ms)) (sym e) ∙ s.rest)

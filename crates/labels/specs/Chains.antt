@@ -1,5 +1,6 @@
 -- The labelled lines as they stand in the work while labels are looked up: in chains.
 use Rattle.std.specs.Prelude.{◌≡◌, List, true, ℕ, zero, suc, ◌+◌, ◌*◌, ◌-◌, ◌/◌, ◌%◌, ◌≤◌, ◌<◌, min, ltb, eqb, length, get_or}
+use Rattle.recorder.specs.Numbers.{label_size}
 use Rattle.recorder.specs.Word.{pick}
 use Rattle.recorder.specs.Marks.{Mark, mark}
 use Rattle.labels.specs.MarksIn.{narrow}
@@ -27,7 +28,7 @@ pub record Chained (w : List ℕ) (n h j : ℕ) (ms : List Mark) : Type 0 where
   pub labels : narrow ms ≡ true
   pub some : 0 < h
   pub room : 3 * n + h ≤ length w
-  pub label : (k : ℕ) → k < n → get_or w (3 * k) 0 ≡ label_of ms k + 65536 * link_of h j ms k
+  pub label : (k : ℕ) → k < n → get_or w (3 * k) 0 ≡ label_of ms k + label_size * link_of h j ms k
   pub addr : (k : ℕ) → k < n → get_or w (3 * k + 1) 0 ≡ (line_of ms k).addr
   pub first : (k : ℕ) → k < n → get_or w (3 * k + 2) 0 ≡ (line_of ms k).first
   pub heads : (b : ℕ) → b < h → get_or w (3 * n + b) 0 ≡ last_in h ms b j

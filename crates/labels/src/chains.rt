@@ -1,7 +1,8 @@
 // For closing up the labelled lines are put into chains by their labels. What compiler.rs keeps in its maps of labels and of DATA
 // starts: lent words stand in for the maps, since there is no heap.
 ghost use Rattle.std.specs.Prelude.{◌≡◌, ◌+◌, ◌*◌, ◌<◌, ◌≤◌, ◌%◌, List, ℕ, IfSome, eqb, length, get_or};
-ghost use Rattle.recorder.specs.Word.{pick, plus_one};
+ghost use Rattle.recorder.specs.Word.{pick};
+ghost use Rattle.recorder.specs.Optional.{plus_one};
 ghost use Rattle.recorder.specs.Ideal.{missing};
 ghost use Rattle.recorder.specs.Marks.{Mark, addr_of, data_of, datum_from};
 ghost use Rattle.labels.specs.MarkWords.{marked_lines, target_found, start_found};
@@ -9,6 +10,7 @@ ghost use Rattle.labels.specs.MarksIn.{MarksIn};
 ghost use Rattle.labels.specs.Chains.{line_of, label_of, last_in, chain_count};
 
 use recorder::label::{Addr, DatumIndex, Label};
+use recorder::number::LABEL_SIZE;
 use recorder::word::word_at;
 
 // The labelled lines in chains: the words that they stand in, how many lines and how many chains there are. Which marks the words hold
@@ -36,11 +38,11 @@ impl<'a> Chains<'a> {
         if chains != 0 {
             for k in 0..lines {
                 let at = 3 * k;
-                let label = work[at] % 65536;
+                let label = work[at] % LABEL_SIZE;
                 let head = from + label as usize % chains;
-                let link = work[head] % 65536;
-                work[at] = label + 65536 * link;
-                work[head] = (k % 65536) as u32 + 1;
+                let link = work[head] % LABEL_SIZE;
+                work[at] = label + LABEL_SIZE * link;
+                work[head] = (k % LABEL_SIZE as usize) as u32 + 1;
             }
         }
         Chains {
@@ -62,7 +64,7 @@ impl<'a> Chains<'a> {
     fn has_label(&self, line: u32, label: Label) -> bool
         ensures { (ms : List Mark) → Indexed self.now ms → line < self.now.lines → result ≡ eqb (label_of ms line) label.0 }
     {
-        self.word(line, 0) % 65536 == u32::from(label.0)
+        self.word(line, 0) % LABEL_SIZE == u32::from(label.0)
     }
 
     // The last line of a label's chain.
@@ -81,7 +83,7 @@ impl<'a> Chains<'a> {
         ensures lower { IfSome result (λ k. k < line) }
         ensures link { (ms : List Mark) → Indexed self.now ms → line < self.now.lines → plus_one result ≡ last_in self.now.chains ms (label_of ms line % self.now.chains) line }
     {
-        let link = self.word(line, 0) / 65536;
+        let link = self.word(line, 0) / LABEL_SIZE;
         if line < link {
             return None;
         }

@@ -20,7 +20,7 @@ use Rattle.rules.specs.Stmt.{compile_stmt, compile_for, for_node, step_flag, nex
 use Rattle.std.specs.Prelude.{Option}
 use Rattle.nodes.specs.Compiled.{sym, named, opt_of, CompiledTyped, PayloadAt}
 use Rattle.expressions.specs.Body.{Body}
-use Rattle.expressions.proofs.Lists.{items_length}
+use Rattle.sheet.proofs.Lists.{items_length}
 use Rattle.loops.specs.Parts.{Stepped, NextDone}
 
 -- FOR

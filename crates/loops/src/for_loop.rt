@@ -1,6 +1,7 @@
 // FOR and NEXT.
 ghost use Rattle.std.specs.Prelude.{◌≡◌, List, ℕ, Option, is_some, unwrap_or};
 ghost use Rattle.recorder.specs.declared.word.Range.{Range};
+ghost use Rattle.recorder.specs.Calls.{name_of_wrong_kind, error_note};
 ghost use Rattle.recorder.specs.Mem.{mem_r, note};
 ghost use Rattle.recorder.specs.CodeGen.{mem_of, SameLoans};
 ghost use Rattle.sheet.specs.declared.form.Shape.TheVariants.{For, Next};
@@ -69,7 +70,7 @@ pub fn compile_for(src: &Source, code: &mut CodeGen, at: usize, left: usize, r: 
 // NEXT's note where its counter is no number: class 5.
 fn next_note(code: &mut CodeGen, v: Range, ty: Type)
     ensures same { SameLoans code.old code.new }
-    ensures value { mem_of code.new ≡ pick (matches_type ty Real) (mem_of code.old) (note (mem_of code.old) 5 v 1) }
+    ensures value { mem_of code.new ≡ pick (matches_type ty Real) (mem_of code.old) (note (mem_of code.old) name_of_wrong_kind v error_note) }
 {
     if !ty.matches(Type::Real) {
         code.note(Class::NameOfWrongKind, v)

@@ -6,10 +6,11 @@ use Rattle.recorder.specs.Recorder.{Named}
 use Rattle.recorder.specs.Mem.{Mem, mem_r}
 use Rattle.sheet.specs.declared.form.Sort.TheVariants.{Expr as exprSort}
 use Rattle.sheet.specs.Skip.{skip_node, skip_repeat}
-use Rattle.sheet.specs.Tree.{Opt, absent, given, expr_at, args_at}
+use Rattle.sheet.specs.Tree.{Opt, absent, given, expr_at}
+use Rattle.sheet.specs.Args.{args_at}
 use Rattle.rules.specs.declared.types.«Type».{«Type» as Ty}
 use Rattle.rules.specs.declared.tables.Wants.{Wants}
-use Rattle.rules.specs.Tables.{wanted_by}
+use Rattle.rules.specs.Wants.{wanted_by}
 use Rattle.rules.specs.Expr.{out, Sym, compile_expr, compile_args, compile_typed, compile_lvalue}
 use Rattle.rules.specs.Stmt.{place_typed}
 use Rattle.std.specs.Prelude.{Option}

@@ -13,13 +13,11 @@ ghost use Rattle.nodes.specs.Compiled.{sym, named, opt_of};
 use crate::source::Source;
 use recorder::call::{Call, Class};
 use recorder::codegen::CodeGen;
+use recorder::number::{TEXT_LIMIT, TOO_LARGE};
 use recorder::unit::QUOTE;
 use recorder::word::Range;
 use rules::tables::{ADD, Sig};
 use rules::types::Type;
-
-// A literal's exponent, 0 to 255, or this for one too large.
-const TOO_LARGE: u32 = 256;
 
 // A symbol's number and its kind.
 #[derive(Clone, Copy)]
@@ -94,10 +92,10 @@ pub fn real_sym(src: &Source, code: &mut CodeGen, r: Range) -> u32
     ensures same { SameLoans code.old code.new }
     ensures value { named (mem_of code.new) result ≡ real_sym (mem_r src.now.text.now) src.now.text.now src.now.base r (mem_of code.old) }
 {
-    let y = compile_sym(src, code, r);
-    let ty = y.ty;
+    let s = compile_sym(src, code, r);
+    let ty = s.ty;
     check_real(code, r, ty);
-    y.number
+    s.number
 }
 
 // The same where the name may be absent. The rules tell a missing symbol by the name's Option, and keep the number apart: each clause on a
@@ -171,7 +169,7 @@ pub fn text_node(src: &Source, code: &mut CodeGen, r: Range)
     let n = quoted_length(src, r);
     let a = quoted_start(src.base, r);
     code.emit(r, Call::String(a, n));
-    if 255 < n {
+    if TEXT_LIMIT < n {
         code.note(Class::TextTooLong, r)
     }
 }

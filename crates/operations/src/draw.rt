@@ -2,7 +2,7 @@
 ghost use Rattle.std.specs.Prelude.{◌≡◌, List, ℕ};
 ghost use Rattle.recorder.specs.Mem.{mem_r};
 ghost use Rattle.recorder.specs.CodeGen.{mem_of, SameLoans};
-ghost use Rattle.sheet.specs.Tree.{args_at};
+ghost use Rattle.sheet.specs.Args.{args_at};
 ghost use Rattle.rules.specs.Stmt.{draw_node};
 ghost use Rattle.expressions.specs.Body.{Body};
 

@@ -1,6 +1,5 @@
 // LOCATE: a row and a column, each of which may be absent.
 ghost use Rattle.std.specs.Prelude.{ℕ};
-ghost use Rattle.recorder.specs.Word.{pick};
 ghost use Rattle.recorder.specs.CodeGen.{mem_of, SameLoans};
 ghost use Rattle.expressions.specs.Body.{Body};
 ghost use Rattle.operations.specs.Parts.{Located};
@@ -16,7 +15,7 @@ use sheet::form::Shape;
 #[tactic(auto, using(expressions::proofs::ExprLaws::range_of_lem))]
 fn locate_part(src: &Source, code: &mut CodeGen, at: usize, left: usize, column: bool) -> usize
     ensures same { SameLoans code.old code.new }
-    ensures value { Located src.now.sheet.now src.now.text.now src.now.base left (pick column 37 36) at (mem_of code.old) (mem_of code.new) result }
+    ensures value { Located src.now.sheet.now src.now.text.now src.now.base left column at (mem_of code.old) (mem_of code.new) result }
 {
     if sheet::leaf::is_absent(src.sheet, at) {
         return recorder::word::behind(src.sheet, at);

@@ -1,5 +1,6 @@
 // Statements that store: LET, SWAP and READ.
 ghost use Rattle.std.specs.Prelude.{◌≡◌, List, ℕ};
+ghost use Rattle.recorder.specs.Calls.{kinds_differ, error_note};
 ghost use Rattle.recorder.specs.Word.{pick};
 ghost use Rattle.recorder.specs.Mem.{mem_r, note};
 ghost use Rattle.recorder.specs.CodeGen.{mem_of, SameLoans};
@@ -20,7 +21,7 @@ const SWAP: u32 = 58;
 // A note of class 4 where two kinds do not fit.
 fn fits_note(code: &mut CodeGen, r: Range, fits: bool)
     ensures same { SameLoans code.old code.new }
-    ensures value { mem_of code.new ≡ pick fits (mem_of code.old) (note (mem_of code.old) 4 r 1) }
+    ensures value { mem_of code.new ≡ pick fits (mem_of code.old) (note (mem_of code.old) kinds_differ r error_note) }
 {
     if !fits {
         code.note(Class::KindsDiffer, r)

@@ -16,10 +16,12 @@ use Rattle.sheet.specs.declared.form.Sort.TheVariants.{Expr as exprSort}
 use Rattle.sheet.specs.declared.form.Shape.TheVariants.{Print}
 use Rattle.sheet.specs.declared.form.ElementKind.{ElementKind}
 use Rattle.sheet.specs.declared.form.ElementKind.TheVariants.{Expr as Value, Comma, Semicolon}
-use Rattle.sheet.specs.Table.{element_kind, expr_fields}
+use Rattle.sheet.specs.Table.{expr_fields}
+use Rattle.sheet.specs.Kinds.{element_kind}
 use Rattle.sheet.proofs.Cases.{value_first, value_number, comma_number, semicolon_number}
 use Rattle.sheet.specs.Skip.{skip_node, skip_repeat, skip_list, skip_fields, skip_field, skip_times, skip_pair, skip_item}
-use Rattle.sheet.specs.Tree.{Expr, sys_func_call, Stmt, PrintElement, value, expr_range, expr_at, expr_node, items_at, element_at, element_of, stmt_node, args_at}
+use Rattle.sheet.specs.Tree.{Expr, sys_func_call, Stmt, PrintElement, value, expr_range, expr_at, expr_node, items_at, element_at, element_of, stmt_node}
+use Rattle.sheet.specs.Args.{args_at}
 use Rattle.rules.specs.declared.types.«Type».{«Type» as Ty}
 use Rattle.rules.specs.declared.types.«Type».TheVariants.{Real}
 use Rattle.rules.specs.declared.tables.Wants.TheVariants.{Func}
@@ -30,8 +32,8 @@ use Rattle.expressions.specs.Body.{Body}
 use Rattle.expressions.proofs.ExprLaws.{range_of_lem}
 use Rattle.prints.specs.Parts.{over_element, tab_emit, behind_call, blank_line, args_here, Tabbed, Valued, Printed}
 
-never : {X : Type 0} → false ≡ true → X
-never e = absurd (subst T (inv e) tt)
+true_not_false : {X : Type 0} → false ≡ true → X
+true_not_false e = absurd (subst T (inv e) tt)
 
 -- TAB and SPC
 pub tab_zero : (s : List ℕ) (left at : ℕ) → left ≡ 0 → false ≡ is_tab_spc (expr_at s left at)
@@ -59,26 +61,26 @@ tab_func s left at k p q q1 f b d hk e hp hq h1 hf hb =
 
 case_three : (s : List ℕ) (f : ℕ → Expr) (g : ℕ → ℕ) (k : ℕ) (r : Range) (p : ℕ) → is_tab_spc (expr_node s f g k r p) ≡ true → k ≡ 3
 unfolding expr_node
-case_three s f g zero r p h = never h
-case_three s f g (suc zero) r p h = never h
-case_three s f g (suc (suc zero)) r p h = never h
+case_three s f g zero r p h = true_not_false h
+case_three s f g (suc zero) r p h = true_not_false h
+case_three s f g (suc (suc zero)) r p h = true_not_false h
 case_three s f g (suc (suc (suc zero))) r p h = refl
-case_three s f g (suc (suc (suc (suc zero)))) r p h = never h
-case_three s f g (suc (suc (suc (suc (suc zero))))) r p h = never h
-case_three s f g (suc (suc (suc (suc (suc (suc zero)))))) r p h = never h
-case_three s f g (suc (suc (suc (suc (suc (suc (suc zero))))))) r p h = never h
-case_three s f g (suc (suc (suc (suc (suc (suc (suc (suc zero)))))))) r p h = never h
-case_three s f g (suc (suc (suc (suc (suc (suc (suc (suc (suc zero))))))))) r p h = never h
-case_three s f g (suc (suc (suc (suc (suc (suc (suc (suc (suc (suc k)))))))))) r p h = never h
+case_three s f g (suc (suc (suc (suc zero)))) r p h = true_not_false h
+case_three s f g (suc (suc (suc (suc (suc zero))))) r p h = true_not_false h
+case_three s f g (suc (suc (suc (suc (suc (suc zero)))))) r p h = true_not_false h
+case_three s f g (suc (suc (suc (suc (suc (suc (suc zero))))))) r p h = true_not_false h
+case_three s f g (suc (suc (suc (suc (suc (suc (suc (suc zero)))))))) r p h = true_not_false h
+case_three s f g (suc (suc (suc (suc (suc (suc (suc (suc (suc zero))))))))) r p h = true_not_false h
+case_three s f g (suc (suc (suc (suc (suc (suc (suc (suc (suc (suc k)))))))))) r p h = true_not_false h
 
 pub tab_three : (s : List ℕ) (left at : ℕ) → is_tab_spc (expr_at s left at) ≡ true → payload_at s at ≡ 3
 unfolding expr_at
-tab_three s zero at h = never h
+tab_three s zero at h = true_not_false h
 tab_three s (suc left) at h = case_three s (expr_at s left) (skip_node s left exprSort) (payload_at s at) (range_at s (next s at)) (next s (next s at)) h
 
 pub tab_deep : (s : List ℕ) (left at : ℕ) (b : Bool) → b ≡ is_tab_spc (expr_at s left at) → b ≡ true → 0 < left
 unfolding expr_at
-tab_deep s zero at b h e = never (inv h ∙ e)
+tab_deep s zero at b h e = true_not_false (inv h ∙ e)
 tab_deep s (suc left) at b h e = omega arith
 
 or_not : (b : Bool) → (b ≡ true → ⊥) → false ≡ b
@@ -103,11 +105,6 @@ second s at k e h = inv e ∙ comma_number k h
 
 pub third : (s : List ℕ) (at k : ℕ) → k ≡ payload_at s at → Semicolon ≡ element_kind k → payload_at s at ≡ suc (suc (k - 2))
 third s at k e h = inv e ∙ semicolon_number k h
-
--- one of two calls
-pub one_call : (t : List ℕ) (k : Bool) (x y a b : ℕ) (r : Range) (m : Mem) → pick k ((mem_r t).emit m x r a b 0) ((mem_r t).emit m y r a b 0) ≡ (mem_r t).emit m (pick k x y) r a b 0
-one_call t true x y a b r m = refl
-one_call t false x y a b r m = refl
 
 -- what follows a value
 pub behind_blank : (t : List ℕ) (base : ℕ) (b : Bool) (r er : Range) (n : ℕ) (v w : Bool) (m m1 : Mem) → 2 ≤ n → w ≡ both v (pick b false true) → w ≡ true → m1 ≡ blank_between (mem_r t) t base er m
@@ -168,7 +165,7 @@ value_tab s t base left n r er at q q1 p b m m1 m2 hr hb h hq h1 x f =
 
 printed_is : (s t : List ℕ) (base left : ℕ) (er : Range) (at p : ℕ) (m m1 m2 : Mem) (ty : Ty) → er ≡ range_at s (next s at) → Compiled s t base left at m m1 p ty
     → m2 ≡ pick (matches_type ty Real) (emit m1 er PrintNum) (emit m1 er PrintStr) → m2 ≡ print_value (mem_r t) t base (expr_at s left at) m
-printed_is s t base left er at p m m1 m2 ty hr x e = rw (← x.result, range_of_lem s left at, e, hr) (one_call t (matches_type ty Real) 38 39 0 0 (range_at s (next s at)) m1)
+printed_is s t base left er at p m m1 m2 ty hr x e = rw (← x.result, range_of_lem s left at, e, hr) refl
 
 pub value_plain : (s t : List ℕ) (base left n : ℕ) (r er : Range) (at p : ℕ) (b : Bool) (m m1 m2 m3 : Mem) (ty : Ty) → er ≡ range_at s (next s at) → b ≡ is_tab_spc (expr_at s left at) → b ≡ false
     → Compiled s t base left at m m1 p ty → m2 ≡ pick (matches_type ty Real) (emit m1 er PrintNum) (emit m1 er PrintStr) → m3 ≡ behind_call (mem_r t) false r er n (eqb (payload_at s p) 0) m2 → Valued s t base left n r at m m3 p

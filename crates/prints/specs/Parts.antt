@@ -1,13 +1,16 @@
 -- The contracts' shapes for the parts of WRITE and PRINT.
 use Rattle.std.specs.Prelude.{◌≡◌, List, Bool, true, false, ℕ, ◌-◌, ltb, eqb}
 use Rattle.recorder.specs.declared.word.Range.{Range}
+use Rattle.recorder.specs.Numbers.{number_one}
+use Rattle.recorder.specs.Calls.{emit_number, emit_print_spc, emit_print_tab, emit_newline}
 use Rattle.recorder.specs.Word.{pick, both, payload_at, next}
 use Rattle.recorder.specs.Recorder.{Recorder}
 use Rattle.recorder.specs.Mem.{Mem, mem_r}
 use Rattle.sheet.specs.declared.form.Sort.TheVariants.{Expr as exprSort}
 use Rattle.sheet.specs.Skip.{skip_node, skip_repeat, skip_element}
-use Rattle.sheet.specs.Tree.{Exprs, value, Stmt, expr_at, items_at, element_at, write_element_at, args_at}
-use Rattle.rules.specs.Tables.{wanted, signature_of}
+use Rattle.sheet.specs.Tree.{Exprs, value, Stmt, expr_at, items_at, element_at, write_element_at}
+use Rattle.sheet.specs.Args.{args_at}
+use Rattle.rules.specs.Tables.{spc, wanted, signature_of}
 use Rattle.rules.specs.Expr.{compile_args}
 use Rattle.rules.specs.Stmt.{surplus_notes, print_one, print_each, write_each}
 
@@ -21,15 +24,16 @@ abbrev pub over_element : List ℕ → ℕ → ℕ → ℕ
 over_element s left q = skip_element s (skip_node s left) (payload_at s q) (next s q)
 
 abbrev pub tab_emit : {S : Type 0} → Recorder S → Range → ℕ → S → S
-tab_emit R r k u = R.emit u (pick (eqb k 28) 40 41) r 0 0 0
+tab_emit R r k u = pick (eqb k spc) (emit_print_spc (R.emit u) r) (emit_print_tab (R.emit u) r)
 
 -- behind a value with which n elements are left; `v` says whether the next one is an expression
 abbrev pub behind_call : {S : Type 0} → Recorder S → Bool → Range → Range → ℕ → Bool → S → S
 behind_call R tabbed r er n v u =
-    pick (ltb n 2) (R.emit u 42 r 0 0 0) (pick (both v (pick tabbed false true)) (R.emit (R.emit u 3 er 129 2147483648 0) 40 er 0 0 0) u)
+    pick (ltb n 2) (emit_newline (R.emit u) r)
+    (pick (both v (pick tabbed false true)) (emit_print_spc (R.emit (emit_number (R.emit u) number_one.e number_one.m er)) er) u)
 
 abbrev pub blank_line : {S : Type 0} → Recorder S → ℕ → Range → S → S
-blank_line R n r u = pick (eqb n 0) (R.emit u 42 r 0 0 0) u
+blank_line R n r u = pick (eqb n 0) (emit_newline (R.emit u) r) u
 
 -- the arguments of TAB or SPC, whose function's range is at a place
 abbrev pub args_here : List ℕ → ℕ → ℕ → Exprs

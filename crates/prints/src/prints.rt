@@ -13,6 +13,7 @@ ghost use Rattle.prints.specs.Parts.{Tabbed, Valued, OnePrinted, Printed, tab_em
 use nodes::source::Source;
 use recorder::call::Call;
 use recorder::codegen::CodeGen;
+use recorder::number::{LEAST_MANTISSA, ONE};
 use recorder::word::Range;
 use rules::tables::{SPC, Wants};
 use rules::types::Type;
@@ -66,7 +67,7 @@ fn blank_between(code: &mut CodeGen, r: Range)
     ensures same { SameLoans code.old code.new }
     ensures value { (t : List ℕ) (base : ℕ) → mem_of code.new ≡ blank_between (mem_r t) t base r (mem_of code.old) }
 {
-    code.emit(r, Call::Number(129, 2147483648));
+    code.emit(r, Call::Number(ONE, LEAST_MANTISSA));
     code.emit(r, Call::PrintSpc)
 }
 

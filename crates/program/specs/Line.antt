@@ -1,6 +1,7 @@
 -- The contracts' shapes for a line and for all lines: the work that is left, and what is compiled.
 use Rattle.std.specs.Prelude.{◌≡◌, List, ℕ, ◌+◌, ◌*◌, ◌<◌, length, replicate, Option, None, Some}
 use Rattle.recorder.specs.declared.label.Label.{Label}
+use Rattle.recorder.specs.Numbers.{sheet_limit}
 use Rattle.recorder.specs.Word.{payload_at}
 use Rattle.recorder.specs.Marks.{Mark}
 use Rattle.labels.specs.MarkWords.{mark_list, mark_count}
@@ -40,4 +41,4 @@ pub record CompiledLine (s t : List ℕ) (line : ℕ) (c d : Lines) (m m' : Mem)
 -- 16 bits
 pub record Programmed (s t : List ℕ) (m m' : Mem) (w w' : List ℕ) (n : ℕ) : Type 0 where
   pub state : m' ≡ (compile_lines (mem_r t) t (program_at s) (first_line (mem_r t) t m)).state
-  pub marks : w ≡ replicate (length w) 0 → 3 * payload_at s 0 < length w → payload_at s 0 < 65536 → MarksIn w' n (compile_lines (mem_r t) t (program_at s) (first_line (mem_r t) t m)).marks
+  pub marks : w ≡ replicate (length w) 0 → 3 * payload_at s 0 < length w → payload_at s 0 < sheet_limit → MarksIn w' n (compile_lines (mem_r t) t (program_at s) (first_line (mem_r t) t m)).marks

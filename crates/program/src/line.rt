@@ -10,6 +10,7 @@ use nodes::source::Source;
 use recorder::call::Class;
 use recorder::codegen::CodeGen;
 use recorder::label::{Addr, DatumIndex, Label};
+use recorder::number::DEPTH_LIMIT;
 use recorder::word::Range;
 
 // How far the lines are compiled: where the next one is, how many labelled ones there are so far, the last label, and where the next
@@ -89,7 +90,7 @@ fn compile_line(
     let addr = code.current_addr();
     code.begin_line(line);
     label_note(code, c.last, o);
-    let at = statements::stmt::compile_stmts(&src, code, q, 64);
+    let at = statements::stmt::compile_stmts(&src, code, q, DEPTH_LIMIT);
     let first = code.first_datum();
     let marks = mark_line(work, c.marks, o, addr, first);
     Lines {

@@ -11,7 +11,8 @@ use native.Mathlib.Numerals.{sub-one}
 use native.Mathlib.Omega.{arith}
 use Rattle.recorder.specs.declared.codegen.Descent.{Descent}
 use Rattle.recorder.specs.declared.codegen.State.{State}
-use Rattle.recorder.specs.Word.{pick, next, plus_one}
+use Rattle.recorder.specs.Word.{pick, next}
+use Rattle.recorder.specs.Optional.{plus_one}
 use Rattle.recorder.specs.Name.{upper, same_units}
 use Rattle.recorder.specs.Mem.{known, sigil_code, with_link, tag_of, name_tag, tagged_at, named_at, lookup, hash_step, hash_of, child_of, descent_from, descent_to, linked_at, note_st}
 

@@ -81,8 +81,8 @@ change_words g f w (r ∷ rs) zs (suc k) h =
     rw e (ap (λ (z : List ℕ). word_of r.call r.line ∷ range_word r.range ∷ r.a ∷ r.b ∷ r.c ∷ z) (change_words g f w rs zs k (omega arith)))
 
 -- what a record's words say: its line's low 24 bits, and its range as far as a word holds it
-abbrev pub squash : Rec → Rec
-squash r = rec r.call (r.line % 16777216) (range_of (range_word r.range)) r.a r.b r.c
+abbrev pub cut_rec : Rec → Rec
+cut_rec r = rec r.call (r.line % 16777216) (range_of (range_word r.range)) r.a r.b r.c
 
 zeros_at : (n k : ℕ) → get_or (replicate n zero) k 0 ≡ 0
 zeros_at zero k = refl
@@ -98,7 +98,7 @@ head_again k c l = omega arith
 head_payload : (k l : ℕ) → payload (word_of k l) ≡ l % 16777216
 head_payload k l = omega arith
 
-pub rec_of_lem : (rs : List Rec) (n k : ℕ) → rec_of (words_of rec_words rs ++ replicate n 0) k ≡ squash (get_or rs k no_rec)
+pub rec_of_lem : (rs : List Rec) (n k : ℕ) → rec_of (words_of rec_words rs ++ replicate n 0) k ≡ cut_rec (get_or rs k no_rec)
 rec_of_lem [] n k = rw (zeros_at n (5 * k + 1), zeros_at n (5 * k + 2), zeros_at n (5 * k + 3), zeros_at n (5 * k + 4), zeros_at n (5 * k))
 rec_of_lem (r ∷ rs) n zero = rw (head_kind r.call r.line, head_payload r.call r.line)
 rec_of_lem (r ∷ rs) n (suc k) =

@@ -2,11 +2,11 @@
 use Rattle.std.specs.Prelude.{◌≡◌}
 use Rattle.recorder.specs.declared.codegen.CodeGen.{CodeGen}
 use Rattle.recorder.specs.declared.codegen.Looked.{Looked}
+use Rattle.recorder.specs.CallNumbers.{numbers_of}
 use Rattle.recorder.specs.Recorder.{Look}
 use Rattle.recorder.specs.Mem.{Mem, mem, put}
 use Rattle.recorder.specs.declared.call.Call.{Call}
 use Rattle.recorder.specs.declared.word.Range.{Range}
-use Rattle.recorder.specs.Calls.{numbers_of}
 
 abbrev pub mem_of : CodeGen → Mem
 mem_of g = mem g.list.now g.notes.now g.book.now g.st

@@ -1,6 +1,7 @@
 -- The rules' recorder: records, notes and book entries in lists that grow.
 use Rattle.std.specs.Prelude.{List, [], ◌∷◌, ◌++◌, Bool, false, ℕ, zero, suc, ◌%◌, eqb, length, get_or}
 use Rattle.recorder.specs.declared.word.Range.{Range}
+use Rattle.recorder.specs.Numbers.{payload_size}
 use Rattle.recorder.specs.Word.{pick}
 use Rattle.recorder.specs.Name.{same_name}
 use Rattle.recorder.specs.Recorder.{Recorder, Named, Look}
@@ -67,7 +68,7 @@ how_many k (e ∷ es) = pick (eqb e.kind k) (suc (how_many k es)) (how_many k es
 
 -- the number that the next entry of a kind gets: what the low 24 bits of its head hold
 abbrev pub next_number : ℕ → List Entry → ℕ
-next_number k es = how_many k es % 16777216
+next_number k es = how_many k es % payload_size
 
 abbrev pub added : ℕ → List Entry → ℕ → ℕ → ℕ → List Entry
 added k es s l x = es ++ (entry k (next_number k es) s l x ∷ [])

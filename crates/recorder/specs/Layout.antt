@@ -1,5 +1,6 @@
 -- How records, notes and book entries stand in words.
 use Rattle.std.specs.Prelude.{List, [], ◌∷◌, ◌++◌, ℕ, ◌-◌, ◌/◌, min, length, replicate}
+use Rattle.recorder.specs.Numbers.{record_limit}
 use Rattle.recorder.specs.Word.{word_of, range_word}
 use Rattle.recorder.specs.Ideal.{Rec, Note, Entry}
 
@@ -29,25 +30,9 @@ note_size = 4
 abbrev pub entry_size : ℕ
 entry_size = 4
 
--- where a record's range and its arguments stand, and an entry's extra
-abbrev pub range_word_at : ℕ
-range_word_at = 1
-
-abbrev pub arg_a : ℕ
-arg_a = 2
-
-abbrev pub arg_b : ℕ
-arg_b = 3
-
-abbrev pub arg_c : ℕ
-arg_c = 4
-
-abbrev pub extra_at : ℕ
-extra_at = 3
-
 -- "List below five words a record, or more than 65,535 records": so many records fit into so many words
 abbrev pub most_records : ℕ → ℕ
-most_records words = min (words / rec_size) 65535
+most_records words = min (words / rec_size) record_limit
 
 -- so many words, zeros behind
 abbrev pub fill : ℕ → List ℕ → List ℕ

@@ -1,10 +1,15 @@
+pub mod Numbers
+pub mod StmtKind
 pub mod Word
+pub mod Optional
 pub mod Recorder
+pub mod Calls
 pub mod Name
 pub mod Ideal
 pub mod Marks
 pub mod Closing
 pub mod Layout
+pub mod Offsets
 pub mod Mem
-pub mod Calls
+pub mod CallNumbers
 pub mod CodeGen

@@ -5,11 +5,16 @@ use Rattle.recorder.specs.declared.word.Range.{Range}
 use Rattle.recorder.specs.declared.codegen.Descent.{Descent}
 use Rattle.recorder.specs.declared.codegen.State.{State}
 use Rattle.recorder.specs.declared.label.DatumIndex.{DatumIndex}
-use Rattle.recorder.specs.Word.{pick, both, kind, kind_at, payload_at, range_at, word_of, range_word, next, plus_one}
+use Rattle.recorder.specs.Numbers.{word_size, payload_size, unknown, bias, number_one}
+use Rattle.recorder.specs.StmtKind.{end_stmt, sleep_stmt}
+use Rattle.recorder.specs.Calls.{no_op_call, op_call, number_call, while_without_wend, error_note}
+use Rattle.recorder.specs.Word.{pick, both, kind, kind_at, payload_at, range_at, word_of, range_word, next}
+use Rattle.recorder.specs.Optional.{plus_one}
 use Rattle.recorder.specs.Name.{upper, same_name}
-use Rattle.recorder.specs.Layout.{rec_size, note_size, entry_size, range_word_at, arg_a, arg_b, arg_c, extra_at, most_records}
-use Rattle.recorder.specs.Ideal.{Rec, rec, name_kind, no_range, look_of}
-use Rattle.recorder.specs.Recorder.{Recorder, Named, Look, unknown}
+use Rattle.recorder.specs.Layout.{rec_size, note_size, entry_size, most_records}
+use Rattle.recorder.specs.Offsets.{range_word_at, arg_a, arg_b, arg_c, extra_at}
+use Rattle.recorder.specs.Ideal.{Rec, rec, name_kind, datum_kind, byte_kind, no_range, look_of}
+use Rattle.recorder.specs.Recorder.{Recorder, Named, Look}
 use Rattle.recorder.specs.Closing.{is_while, is_wend, is_start, is_end, is_one, is_for, is_next_of, round_up}
 
 pub record Mem : Type 0 where
@@ -86,11 +91,11 @@ on_line s l = record s { line = l; first = None }
 
 -- what of a count goes into a word
 abbrev pub as_word : ℕ → ℕ
-as_word n = n % 4294967296
+as_word n = n % word_size
 
 -- the number within its kind that an entry gets: the low 24 bits of the count
 abbrev pub low : ℕ → ℕ
-low n = n % 16777216
+low n = n % payload_size
 
 -- one more, up to the book's room
 unfoldable pub more : ℕ → ℕ → ℕ
@@ -246,13 +251,13 @@ unlinked b s = unlink_from b 0 (known b s)
 
 -- a datum; the line's first datum is set whether it fits or not
 unfoldable pub datum_list : List ℕ → State → ℕ → ℕ → ℕ → List ℕ
-datum_list b s x n q = entry_list b s (word_of 51 (low (datums_in s))) x n q
+datum_list b s x n q = entry_list b s (word_of datum_kind (low (datums_in s))) x n q
 
 unfoldable pub datum_st : List ℕ → State → State
 datum_st b s = record (entry_st b s) { datums = more (datums_in s) (length b / entry_size); first = Some (unwrap_or s.first (record { 0 = low (datums_in s) })) }
 
 unfoldable pub byte_list : List ℕ → State → ℕ → ℕ → ℕ → List ℕ
-byte_list b s x n v = entry_list b s (word_of 52 (low (bytes_in s))) x n v
+byte_list b s x n v = entry_list b s (word_of byte_kind (low (bytes_in s))) x n v
 
 unfoldable pub byte_st : List ℕ → State → State
 byte_st b s = record (entry_st b s) { bytes = more (bytes_in s) (length b / entry_size) }
@@ -323,7 +328,7 @@ passed l n s = record { list = l; notes = n; st = s }
 abbrev pub open_step : Passed → ℕ → Passed
 open_step p w =
     passed (at_rec (set_b unknown) p.list w)
-    (note_list p.notes p.st (word_of 13 (get_or p.list (rec_size * w) 0)) (get_or p.list (rec_size * w + range_word_at) 0) 1)
+    (note_list p.notes p.st (word_of while_without_wend (get_or p.list (rec_size * w) 0)) (get_or p.list (rec_size * w + range_word_at) 0) error_note)
     (note_st p.notes p.st)
 
 unfoldable pub open_from : Passed → ℕ → ℕ → Passed
@@ -345,17 +350,17 @@ abbrev pub rewrite : ℕ → ℕ → ℕ → ℕ → List ℕ → List ℕ
 rewrite k a b c p = set_c c (set_b b (set_a a (set_head k p)))
 
 abbrev pub no_op_at : List ℕ → ℕ → List ℕ
-no_op_at l k = at_rec (rewrite 1 0 0 0) l k
+no_op_at l k = at_rec (rewrite no_op_call 0 0 0) l k
 
 abbrev pub sleep_at : List ℕ → ℕ → List ℕ
-sleep_at l k = at_rec (rewrite 2 65 1 0) l k
+sleep_at l k = at_rec (rewrite op_call sleep_stmt 1 0) l k
 
 -- what m is rounded up to a multiple of, for e from 129 on
 unfoldable pub unit_of : ℕ → ℕ
-unit_of e = pick (ltb e 129) 1 (2 ^ (160 - e))
+unit_of e = pick (ltb e number_one.e) 1 (2 ^ (bias - e))
 
 unfoldable pub whole_at : List ℕ → ℕ → List ℕ
-whole_at l k = pick (eqb (rec_of l k).call 3) (at_rec (rewrite 3 (round_up (rec_of l k).a (rec_of l k).b).e (round_up (rec_of l k).a (rec_of l k).b).m 0) l k) l
+whole_at l k = pick (eqb (rec_of l k).call number_call) (at_rec (rewrite number_call (round_up (rec_of l k).a (rec_of l k).b).e (round_up (rec_of l k).a (rec_of l k).b).m 0) l k) l
 
 unfoldable pub delay_at : List ℕ → ℕ → Bool
 delay_at l k = both (is_start (rec_of l k)) (both (is_end (rec_of l (k + 1))) (both (is_for 0 (rec_of l (k + 2))) (is_next_of (rec_of l (k + 2)) (rec_of l (k + 3)))))
@@ -383,7 +388,7 @@ convert_delays l s = delays_from l 0 (present l s)
 
 -- clean_up
 abbrev pub finish : Passed → Passed
-finish p = passed (put_rec (convert_delays p.list p.st) p.st 2 no_range 17 0 0) p.notes (put_st (convert_delays p.list p.st) p.st)
+finish p = passed (put_rec (convert_delays p.list p.st) p.st op_call no_range end_stmt 0 0) p.notes (put_st (convert_delays p.list p.st) p.st)
 
 unfoldable pub clean_up_all : List ℕ → List ℕ → State → Passed
 clean_up_all l n s = finish (patch_whiles l n s)

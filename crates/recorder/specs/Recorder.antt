@@ -1,5 +1,5 @@
 -- What compiling does to the state that it writes into, whatever that state is: CodeEmitter of compiler.rs.
-use Rattle.std.specs.Prelude.{ℕ, ◌+◌, ◌*◌, ◌/◌, ◌%◌}
+use Rattle.std.specs.Prelude.{ℕ}
 use Rattle.recorder.specs.declared.word.Range.{Range}
 
 -- a state and the number of the entry that was found or made
@@ -7,7 +7,7 @@ pub record Named (S : Type 0) : Type 0 where
   pub state : S
   pub number : ℕ
 
--- what resolution reads of a record: its call, its line, and its last two arguments
+-- what resolution reads of a record: its call, its line, and its last two arguments, which say what it waits for
 pub record Look : Type 0 where
   pub call : ℕ
   pub line : ℕ
@@ -42,18 +42,3 @@ pub record Recorder (S : Type 0) : Type 0 where
   pub drop_label : S → ℕ → S
   -- clean_up: WHILEs, delays, End
   pub clean_up : S → S
-
--- A jump or a RESTORE that waits for its label keeps the label plus 1 in argument b, and the range that a note would
--- carry, as one number, in argument c. Closing up clears both.
-abbrev pub pending_label : ℕ → ℕ
-pending_label l = l + 1
-
-abbrev pub pack : Range → ℕ
-pack r = r.start * 65536 + r.end
-
-abbrev pub unpack : ℕ → Range
-unpack c = record { start = c / 65536; end = c % 65536 }
-
--- "A target ... not yet known is all ones"
-abbrev pub unknown : ℕ
-unknown = 4294967295

@@ -1,6 +1,7 @@
 -- The words of a sheet and of a list, and the places between them.
-use Rattle.std.specs.Prelude.{List, Bool, true, false, ℕ, suc, ◌+◌, ◌*◌, ◌/◌, ◌%◌, ltb, length, get_or, Option, None, Some}
+use Rattle.std.specs.Prelude.{List, Bool, true, false, ℕ, ◌+◌, ◌*◌, ◌/◌, ◌%◌, ltb, length, get_or}
 use Rattle.recorder.specs.declared.word.Range.{Range}
+use Rattle.recorder.specs.Numbers.{payload_size, line_size, label_size}
 
 abbrev pub pick {ℓ} : {A : Type ℓ} → Bool → A → A → A
 pick true a b = a
@@ -21,14 +22,14 @@ either false b = b
 
 -- "A word's top 8 bits are its kind (hexadecimal below), its low 24 its payload."
 abbrev pub kind : ℕ → ℕ
-kind w = w / 16777216
+kind w = w / payload_size
 
 abbrev pub payload : ℕ → ℕ
-payload w = w % 16777216
+payload w = w % payload_size
 
 -- a kind and the low 24 bits of a number: a head of the list, the notes or the book
 abbrev pub word_of : ℕ → ℕ → ℕ
-word_of k n = k * 16777216 + n % 16777216
+word_of k n = k * payload_size + n % payload_size
 
 -- what stands at a place; behind the end stands 0, whose kind is none of the form's
 abbrev pub kind_at : List ℕ → ℕ → ℕ
@@ -43,22 +44,17 @@ next s at = pick (ltb at (length s)) (at + 1) at
 
 -- "01 range: start times 4,096 plus end, within the line."
 abbrev pub range_of : ℕ → Range
-range_of w = record { start = payload w / 4096; end = payload w % 4096 }
+range_of w = record { start = payload w / line_size; end = payload w % line_size }
 
 abbrev pub range_at : List ℕ → ℕ → Range
 range_at s at = range_of (get_or s at 0)
 
 abbrev pub range_word : Range → ℕ
-range_word r = 16777216 + r.start * 4096 + r.end
+range_word r = payload_size + r.start * line_size + r.end
 
 -- "03 label, 0 to 65,535"
 abbrev pub label_at : List ℕ → ℕ → ℕ
-label_at s at = get_or s at 0 % 65536
-
--- a number that there may be, plus 1; 0 if there is none
-abbrev pub plus_one : Option ℕ → ℕ
-plus_one None = 0
-plus_one (Some k) = suc k
+label_at s at = get_or s at 0 % label_size
 
 -- a flag in a word: 0 or 1
 abbrev pub flag_of : Bool → ℕ

@@ -1,6 +1,6 @@
 // The numbered calls of document 01 and the classes of its notes, by name.
 ghost use Rattle.std.specs.Prelude.{◌≡◌};
-ghost use Rattle.recorder.specs.Calls.{waiting, numbers_of, class_number, severity_of};
+ghost use Rattle.recorder.specs.CallNumbers.{waiting, numbers_of, class_number, severity_of};
 
 use crate::label::Label;
 use crate::word::{Range, packed};

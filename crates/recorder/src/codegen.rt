@@ -1,15 +1,18 @@
 // The recorder of codegen.rs, over lent words: records in the list, notes, entries in the book.
 // What does not fit changes no word and sets its buffer's flag, which stays.
 ghost use Rattle.std.specs.Prelude.{◌≡◌, ◌+◌, ◌*◌, ◌-◌, ◌/◌, ◌%◌, Some, None, min, ltb, eqb, length, get_or, set, replicate};
-ghost use Rattle.recorder.specs.Word.{pick, both, payload_at, word_of, range_word, plus_one};
+ghost use Rattle.recorder.specs.CallNumbers.{class_number, severity_of};
+ghost use Rattle.recorder.specs.Word.{pick, both, payload_at, word_of, range_word};
+ghost use Rattle.recorder.specs.Optional.{plus_one};
 ghost use Rattle.recorder.specs.Name.{upper, same_units, same_name};
-ghost use Rattle.recorder.specs.Layout.{rec_size, entry_size, extra_at, most_records};
-ghost use Rattle.recorder.specs.Calls.{class_number, severity_of};
+ghost use Rattle.recorder.specs.Layout.{rec_size, entry_size, most_records};
+ghost use Rattle.recorder.specs.Offsets.{extra_at};
 ghost use Rattle.recorder.specs.Mem.{nothing, names_in, sigil_code, link_of, with_link, known, child_of, may_link, root_of, records_in, named_at, hash_step, hash_of, descent_to, linked_at, root_in, low, more, four, tag_of, name_tag, tagged_at, lookup, entry_of, set_a, set_c, settle_args, clear_args, rec_of, look_at, begin_line, put, put_note, note, note_at, put_entry, new_symbol, make_symbol, emit_datum, load_byte, next_byte, current_addr, patched};
 ghost use Rattle.recorder.specs.CodeGen.{mem_of, SameLoans, look_is, emit};
 
 use crate::call::{Call, Class};
 use crate::label::{Addr, DatumIndex};
+use crate::number::{PAYLOAD_SIZE, RECORD_LIMIT, WORD_SIZE};
 use crate::unit::{DOLLAR, LOWER_A, LOWER_Z, PERCENT, UPPER_A};
 use crate::word::{
     Range, behind, kind_at, kind_of, payload_at, range_word, unit_at, word_at, word_of,
@@ -142,13 +145,13 @@ pub struct Looked {
 pub fn most_records(words: usize) -> usize
     ensures { result ≡ most_records words }
 {
-    (words / RECORD).min(65535)
+    (words / RECORD).min(RECORD_LIMIT)
 }
 
 fn low_bits(n: usize) -> u32
     ensures { result ≡ low n }
 {
-    (n % 16777216) as u32
+    (n % PAYLOAD_SIZE as usize) as u32
 }
 
 #[tactic(auto, unfolding(crate::specs::Mem::more))]
@@ -248,7 +251,7 @@ fn with_link(high: bool, w: u32, k: usize) -> u32
 fn hash_step(h: u32, u: u16) -> u32
     ensures { result ≡ hash_step h u }
 {
-    ((h as u64 + u as u64) * 2654435769 % 4294967296) as u32
+    ((h as u64 + u as u64) * 2654435769 % WORD_SIZE) as u32
 }
 
 // The hash of a name: its bits choose the children on the descent to it. As in same_units, units behind the text are 0, and count.
@@ -305,7 +308,7 @@ fn is_high(bits: u32) -> bool
 fn next_bits(bits: u32) -> u32
     ensures { result ≡ bits * 2 % 4294967296 }
 {
-    (bits as u64 * 2 % 4294967296) as u32
+    (bits as u64 * 2 % WORD_SIZE) as u32
 }
 
 // The child that the descent goes on to; 0 for none, which ends it by the test that ends it at any entry not behind this one.
@@ -671,7 +674,7 @@ impl CodeGen<'_> {
     pub fn current_addr(&self) -> Addr
         ensures { result.0 ≡ current_addr (mem_of self.now) }
     {
-        Addr((self.st.records % 4294967296) as u32)
+        Addr((self.st.records % WORD_SIZE as usize) as u32)
     }
 
     // Where a record begins that is written and in the list.

@@ -2,6 +2,8 @@
 ghost use Rattle.std.specs.Prelude.{◌≡◌};
 ghost use Rattle.recorder.specs.Word.{label_at};
 
+use crate::number::LABEL_SIZE;
+
 // A line's label.
 #[derive(Clone, Copy)]
 pub struct Label(pub u16);
@@ -19,5 +21,5 @@ pub fn label_at(s: &[u32], at: usize) -> Label
     ensures { result.0 ≡ label_at s.now at }
 {
     let w = crate::word::word_at(s, at);
-    Label((w % 65536) as u16)
+    Label((w % LABEL_SIZE) as u16)
 }

@@ -5,5 +5,6 @@
 pub mod call;
 pub mod codegen;
 pub mod label;
+pub mod number;
 pub mod unit;
 pub mod word;

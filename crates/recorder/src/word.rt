@@ -1,7 +1,9 @@
 // The words of a sheet and of a list: a kind in the top 8 bits, a payload in the low 24.
 ghost use Rattle.std.specs.Prelude.{◌≡◌, get_or};
-ghost use Rattle.recorder.specs.Recorder.{pack, unpack};
+ghost use Rattle.recorder.specs.Calls.{pack, unpack};
 ghost use Rattle.recorder.specs.Word.{kind, payload, kind_at, payload_at, word_of, next, range_of, range_at, range_word};
+
+use crate::number::{HALF_SIZE, LINE_SIZE, PAYLOAD_SIZE};
 
 // A range within its line: from start up to, but without, end.
 #[derive(Clone, Copy)]
@@ -13,20 +15,20 @@ pub struct Range {
 pub fn kind_of(w: u32) -> u32
     ensures { result ≡ kind w }
 {
-    w / 16777216
+    w / PAYLOAD_SIZE
 }
 
 pub fn payload_of(w: u32) -> u32
     ensures { result ≡ payload w }
 {
-    w % 16777216
+    w % PAYLOAD_SIZE
 }
 
 // A word made of its kind and the low 24 bits of a number.
 pub fn word_of(kind: u8, n: u32) -> u32
     ensures { result ≡ word_of kind n }
 {
-    u32::from(kind) * 16777216 + n % 16777216
+    u32::from(kind) * PAYLOAD_SIZE + n % PAYLOAD_SIZE
 }
 
 // The word at a place, 0 behind the end. Words and units have a function each: with Default the contract would not say 0, and with the
@@ -70,8 +72,8 @@ pub fn range_of(w: u32) -> Range
 {
     let p = payload_of(w);
     Range {
-        start: (p / 4096) as u16,
-        end: (p % 4096) as u16,
+        start: (p / LINE_SIZE) as u16,
+        end: (p % LINE_SIZE) as u16,
     }
 }
 
@@ -84,20 +86,20 @@ pub fn range_at(s: &[u32], at: usize) -> Range
 pub fn range_word(r: Range) -> u32
     ensures { result ≡ range_word r }
 {
-    16777216 + u32::from(r.start) * 4096 + u32::from(r.end)
+    PAYLOAD_SIZE + u32::from(r.start) * LINE_SIZE + u32::from(r.end)
 }
 
 pub fn packed(r: Range) -> u32
     ensures { result ≡ pack r }
 {
-    u32::from(r.start) * 65536 + u32::from(r.end)
+    u32::from(r.start) * HALF_SIZE + u32::from(r.end)
 }
 
 pub fn unpacked(c: u32) -> Range
     ensures { result ≡ unpack c }
 {
     Range {
-        start: (c / 65536) as u16,
-        end: (c % 65536) as u16,
+        start: (c / HALF_SIZE) as u16,
+        end: (c % HALF_SIZE) as u16,
     }
 }

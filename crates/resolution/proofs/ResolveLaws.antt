@@ -18,10 +18,10 @@ look_as : (q : Looked) (u : Look) → look_is q u → as_look q ≡ u
 look_as q u p = rw (p.0, p.1, p.2, p.3)
 
 -- a record that waits for a label that is nowhere
-pub loses : (t : List ℕ) (w : Waiting) (ms : List Mark) (k : ℕ) (u : Look) (q : Looked) (label : ℕ) (m : Mem)
+pub no_label : (t : List ℕ) (w : Waiting) (ms : List Mark) (k : ℕ) (u : Look) (q : Looked) (label : ℕ) (m : Mem)
     → look_is q u → w.waits u.call ≡ true → (1 ≤ q.b) × (label ≡ q.b - 1) → missing ≡ w.find ms label
     → (m1 : Mem) → m1 ≡ settle_by (mem_r t) w missing k (as_look q) m → m1 ≡ settle_waiting (mem_r t) w ms k u m
-loses t w ms k u q label m i a h z m1 p = rw (← look_as q u i, lt-ltb 0 q.b (omega arith), i.0, a, ← h.1, ← z) p
+no_label t w ms k u q label m i a h z m1 p = rw (← look_as q u i, lt-ltb 0 q.b (omega arith), i.0, a, ← h.1, ← z) p
 
 -- the pass over the records
 module _ (t : List ℕ) (w : Waiting) (ms : List Mark) (k n : ℕ) (m m1 : Mem) where

@@ -1,11 +1,11 @@
 // "After the lines: jumps in order of pending, then RESTOREs": resolve_labels and resolve_datum_indices of compiler.rs.
 ghost use Rattle.std.specs.Prelude.{◌≡◌, ◌<◌, List, ℕ, MatchOption};
+ghost use Rattle.recorder.specs.CallNumbers.{class_number, severity_of};
 ghost use Rattle.recorder.specs.Ideal.{missing};
 ghost use Rattle.recorder.specs.Marks.{Mark};
 ghost use Rattle.labels.specs.MarksIn.{MarksIn};
 ghost use Rattle.labels.specs.Indexed.{Indexed};
 ghost use Rattle.recorder.specs.Mem.{Mem, mem_r, as_word, records_in, look_at, patched, settle_args};
-ghost use Rattle.recorder.specs.Calls.{class_number, severity_of};
 ghost use Rattle.recorder.specs.CodeGen.{mem_of, SameLoans};
 ghost use Rattle.rules.specs.Program.{Lines, Waiting, jumps, restores, settle_by, settle_waiting, resolve, resolve_labels, resolve_datum_indices, close_up};
 ghost use Rattle.resolution.specs.Looks.{as_look, search_of};
@@ -107,7 +107,8 @@ fn miss<T: Target>(code: &mut CodeGen, k: u32, q: Looked)
 }
 
 // The record at k: one that waits gets what its label names, or a note. The lines ms that the chains were made of (Indexed) are the
-// rules' list: no value of the code has them, so each contract asks. code is written and chains are read, so they are no struct.
+// rules' list: no value of the code has them, so each contract asks, and close_up answers: index_lines makes Indexed of MarksIn. code
+// is written and chains are read, so they are no struct.
 // k counts as in the rules, and each call of the recorder is given it as an Addr.
 fn settle_waiting<T: Target>(code: &mut CodeGen, chains: &Chains, k: u32)
     ensures same { SameLoans code.old code.new }
@@ -152,6 +153,10 @@ pub fn resolve_datum_indices(code: &mut CodeGen, chains: &Chains)
 }
 
 // "Closing up": jumps, RESTOREs, then WHILEs, delays and End. The names' links go. The n lines in work are put into chains.
+// The clause assumes of the caller that work holds the n labelled lines of the rules, and zeros behind, a word at least (MarksIn).
+// compile_prog leaves it so (`marks` of Programmed, in its own clause) where work was zeros with room for the lines; compile_accepted
+// clears work before, and compile_checked has the room of the check (lines_fit and lines_few). CompileLaws of crate compiler puts them
+// together (from_zeros, whole_sized), so that the clause of `compile` assumes nothing.
 pub fn close_up(code: &mut CodeGen, work: &mut [u32], n: usize)
     ensures same { SameLoans code.old code.new }
     ensures value { (t : List ℕ) (c : Lines Mem) → c.state ≡ mem_of code.old → MarksIn work.old n c.marks → mem_of code.new ≡ close_up (mem_r t) c }

@@ -8,11 +8,11 @@ use Rattle.recorder.specs.Closing.{is_op, is_wend, is_while, rec_at, end_rec}
 use Rattle.recorder.proofs.Bools.{both_left, both_right}
 use Rattle.sheet.specs.Tree.{Opt, absent, given}
 use Rattle.rules.specs.Missing.{All}
-use Rattle.rules.specs.Piles.{num, Pile, operands, wants_of, taken, step}
+use Rattle.rules.specs.Piles.{num, Pile, operands, effect_of, taken, step}
 use Rattle.rules.specs.Demand.{targets, is_in, some_below, call_at, from_on, from_next, inside_on, from_return, from_wend, reached, pile_at, Fits, Orderly, ExactlyOne}
-use Rattle.rules.proofs.PileLaws.{and_then, pile_in, quiet_call, is_jump_call, Ahead, ahead_append, ahead_at, all_map}
+use Rattle.rules.proofs.PileLaws.{and_then, pile_in, empties_call, is_jump_call, Ahead, ahead_append, ahead_at, all_map}
 use Rattle.rules.proofs.Blocks.{Body, body_left, pile_none, pile_left}
-use Rattle.rules.proofs.Traces.{Trace, trace_at, trace_step, trace_quiet, trace_each, trace_on, trace_append}
+use Rattle.rules.proofs.Traces.{Trace, trace_at, trace_step, trace_empty, trace_each, trace_on, trace_append}
 use Rattle.rules.proofs.ClosingPiles.{Full}
 use Rattle.rules.proofs.DelayPiles.{Sound}
 
@@ -56,10 +56,10 @@ is_in_lem X j (x ∷ xs) e a = go (eqb j x) refl e (is_in_lem X j xs)
     go false q h f = f h a.1
 
 -- a record with a target leaves an empty pile
-aimed_quiet : (j : ℕ) (r : Rec) → is_in j (targets r) ≡ true → quiet_call r.call ≡ true
-aimed_quiet j r e = go (both (leb 19 r.call) (leb r.call 21)) refl (eqb r.call 25) refl (eqb r.call 26) refl e
+targeted_empty : (j : ℕ) (r : Rec) → is_in j (targets r) ≡ true → empties_call r.call ≡ true
+targeted_empty j r e = go (both (leb 19 r.call) (leb r.call 21)) refl (eqb r.call 25) refl (eqb r.call 26) refl e
   where
-    low : (k : ℕ) → 19 ≤ k → k ≤ 26 → quiet_call k ≡ true
+    low : (k : ℕ) → 19 ≤ k → k ≤ 26 → empties_call k ≡ true
     low k p q = rw (le-leb 19 k p, le-leb k 26 q) (any (eqb k 2))
       where
         any : (b : Bool) → either b true ≡ true
@@ -67,7 +67,7 @@ aimed_quiet j r e = go (both (leb 19 r.call) (leb r.call 21)) refl (eqb r.call 2
         any false = refl
 
     go : (a : Bool) → both (leb 19 r.call) (leb r.call 21) ≡ a → (b : Bool) → eqb r.call 25 ≡ b → (c : Bool) → eqb r.call 26 ≡ c
-        → is_in j (pick a (r.a ∷ []) (pick b (r.a ∷ r.b ∷ []) (pick c (r.c ∷ []) []))) ≡ true → quiet_call r.call ≡ true
+        → is_in j (pick a (r.a ∷ []) (pick b (r.a ∷ r.b ∷ []) (pick c (r.c ∷ []) []))) ≡ true → empties_call r.call ≡ true
     go true p b q c s h = low r.call (leb-true 19 r.call (both_left (leb 19 r.call) (leb r.call 21) p))
         (let l = leb-true r.call 21 (both_right (leb 19 r.call) (leb r.call 21) p) in omega (arith, l))
     go false p true q c s h = rw (eqb-true r.call 25 q) refl
@@ -83,16 +83,16 @@ some_below_lem f (suc n) e = go (f n) refl e (some_below_lem f n)
     go true q h g = (n, omega arith, q)
     go false q h g = let u = g h in (u.0, omega (arith, u.1), u.2)
 
-op_quiet : (k : ℕ) (r : Rec) → is_op k r ≡ true → quiet_call r.call ≡ true
-op_quiet k r e = let c : r.call ≡ 2 = eqb-true r.call 2 (both_left (eqb r.call 2) (eqb r.a k) e) in rw c refl
+op_empty : (k : ℕ) (r : Rec) → is_op k r ≡ true → empties_call r.call ≡ true
+op_empty k r e = let c : r.call ≡ 2 = eqb-true r.call 2 (both_left (eqb r.call 2) (eqb r.a k) e) in rw c refl
 
-call_quiet : (r : Rec) (k : ℕ) → quiet_call k ≡ true → eqb r.call k ≡ true → quiet_call r.call ≡ true
-call_quiet r k q e = rw (eqb-true r.call k e) q
+call_empty : (r : Rec) (k : ℕ) → empties_call k ≡ true → eqb r.call k ≡ true → empties_call r.call ≡ true
+call_empty r k q e = rw (eqb-true r.call k e) q
 
-jump_quiet : (k : ℕ) → is_jump_call k ≡ true → quiet_call k ≡ true
-jump_quiet k e = go (eqb k 20) refl (eqb k 21) refl e
+jump_empty : (k : ℕ) → is_jump_call k ≡ true → empties_call k ≡ true
+jump_empty k e = go (eqb k 20) refl (eqb k 21) refl e
   where
-    go : (a : Bool) → eqb k 20 ≡ a → (b : Bool) → eqb k 21 ≡ b → either a b ≡ true → quiet_call k ≡ true
+    go : (a : Bool) → eqb k 20 ≡ a → (b : Bool) → eqb k 21 ≡ b → either a b ≡ true → empties_call k ≡ true
     go true p b q h = rw (eqb-true k 20 p) refl
     go false p true q h = rw (eqb-true k 21 q) refl
     go false p false q h = let y : ◌≡◌ {A = ℕ} 0 1 = cc in absurd (omega arith)
@@ -111,23 +111,23 @@ module _ (E : List Entry) (X Y : ℕ → Type 0) (rs : List Rec) (tr : Trace E (
   piles_before : (k : ℕ) → k < length rs → pile_at ps k ≡ before k
   piles_before k h = piles_at E rs [] (before k) k h (before_is k)
 
-  quiet_leaves : (k : ℕ) → k < length rs → quiet_call (rec_at rs k).call ≡ true → before (suc k) ≡ []
-  quiet_leaves k h q = let e = trace_quiet tr k h q in let f = before_is (suc k) in let g : given (before (suc k)) ≡ given [] = sym f ∙ e in cc
+  empty_leaves : (k : ℕ) → k < length rs → empties_call (rec_at rs k).call ≡ true → before (suc k) ≡ []
+  empty_leaves k h q = let e = trace_empty tr k h q in let f = before_is (suc k) in let g : given (before (suc k)) ≡ given [] = sym f ∙ e in cc
 
   good_before : (j : ℕ) → X j → before j ≡ []
   good_before j x = let g : given (before j) ≡ given [] = sym (before_is j) ∙ (good j x).1 in cc
 
-  -- behind a quiet record
-  behind_quiet : (j : ℕ) → ltb 0 j ≡ true → j < length rs → quiet_call (rec_at rs (j - 1)).call ≡ true → before j ≡ []
-  behind_quiet j l h q =
+  -- behind a record that leaves the pile empty
+  behind_empty : (j : ℕ) → ltb 0 j ≡ true → j < length rs → empties_call (rec_at rs (j - 1)).call ≡ true → before j ≡ []
+  behind_empty j l h q =
       let p = ltb-true 0 j l in
       let e : suc (j - 1) ≡ j = omega (arith, p) in
-      rw e at (quiet_leaves (j - 1) (omega (arith, p)) q)
+      rw e at (empty_leaves (j - 1) (omega (arith, p)) q)
 
   -- wherever a record goes, the pile is the one it leaves
-  arrives : (k : ℕ) → k < length rs → (j : ℕ) → j < length rs → reached rs k j ≡ true → before j ≡ before (suc k)
+  pile_there : (k : ℕ) → k < length rs → (j : ℕ) → j < length rs → reached rs k j ≡ true → before j ≡ before (suc k)
   unfolding reached
-  arrives k h j i e = next (eqb j (k + 1)) refl e
+  pile_there k h j i e = next (eqb j (k + 1)) refl e
     where
       wend : from_wend rs k j ≡ true → before j ≡ before (suc k)
       wend q =
@@ -137,7 +137,7 @@ module _ (E : List Entry) (X Y : ℕ → Type 0) (rs : List Rec) (tr : Trace E (
           let c : (rec_at rs u.0).call ≡ 25 = eqb-true (rec_at rs u.0).call 25 (both_left (is_while (rec_at rs u.0)) (eqb (rec_at rs u.0).a j) u.2) in
           let a : (rec_at rs u.0).a ≡ j = eqb-true (rec_at rs u.0).a j (both_right (is_while (rec_at rs u.0)) (eqb (rec_at rs u.0).a j) u.2) in
           let x : X (rec_at rs u.0).a = (rw c at (trace_each tr u.0 u.1).targets).0 in
-          good_before j (rw a at x) ∙ sym (quiet_leaves k h (op_quiet 62 (rec_at rs k) q₁))
+          good_before j (rw a at x) ∙ sym (empty_leaves k h (op_empty 62 (rec_at rs k) q₁))
 
       return : (b : Bool) → from_return rs k j ≡ b → either b (from_wend rs k j) ≡ true → before j ≡ before (suc k)
       return false q r = wend r
@@ -149,7 +149,7 @@ module _ (E : List Entry) (X Y : ℕ → Type 0) (rs : List Rec) (tr : Trace E (
           let q₂ = both_right A (both (ltb 0 j) (both C D)) q in
           let q₃ = both_left (ltb 0 j) (both C D) q₂ in
           let q₄ = both_left C D (both_right (ltb 0 j) (both C D) q₂) in
-          behind_quiet j q₃ i (call_quiet (rec_at rs (j - 1)) 21 refl q₄) ∙ sym (quiet_leaves k h (op_quiet 53 (rec_at rs k) q₁))
+          behind_empty j q₃ i (call_empty (rec_at rs (j - 1)) 21 refl q₄) ∙ sym (empty_leaves k h (op_empty 53 (rec_at rs k) q₁))
 
       loop : (b : Bool) → from_next rs k j ≡ b → either b (either (from_return rs k j) (from_wend rs k j)) ≡ true → before j ≡ before (suc k)
       loop false q r = return (from_return rs k j) refl r
@@ -158,7 +158,7 @@ module _ (E : List Entry) (X Y : ℕ → Type 0) (rs : List Rec) (tr : Trace E (
           let C = eqb (call_at rs (j - 1)) 23 in
           let q₁ = both_left A (both (ltb 0 j) C) q in
           let q₂ = both_right A (both (ltb 0 j) C) q in
-          behind_quiet j (both_left (ltb 0 j) C q₂) i (call_quiet (rec_at rs (j - 1)) 23 refl (both_right (ltb 0 j) C q₂)) ∙ sym (quiet_leaves k h (call_quiet (rec_at rs k) 24 refl q₁))
+          behind_empty j (both_left (ltb 0 j) C q₂) i (call_empty (rec_at rs (j - 1)) 23 refl (both_right (ltb 0 j) C q₂)) ∙ sym (empty_leaves k h (call_empty (rec_at rs k) 24 refl q₁))
 
       choice : (b : Bool) → from_on rs k j ≡ b → either b (either (from_next rs k j) (either (from_return rs k j) (from_wend rs k j))) ≡ true → before j ≡ before (suc k)
       choice false q r = loop (from_next rs k j) refl r
@@ -177,13 +177,13 @@ module _ (E : List Entry) (X Y : ℕ → Type 0) (rs : List Rec) (tr : Trace E (
               let d = j - k - 2 in
               let f : j ≡ suc (suc (k + d)) = omega arith in
               let u = trace_on tr k h c d (omega arith) in
-              let g : before (suc (suc (k + d))) ≡ [] = quiet_leaves (suc (k + d)) u.0 (jump_quiet (rec_at rs (suc (k + d))).call u.1) in
-              let w : before (suc k) ≡ [] = quiet_leaves k h (rw c refl) in
+              let g : before (suc (suc (k + d))) ≡ [] = empty_leaves (suc (k + d)) u.0 (jump_empty (rec_at rs (suc (k + d))).call u.1) in
+              let w : before (suc k) ≡ [] = empty_leaves k h (rw c refl) in
               rw (f, w) g
 
       named : (b : Bool) → is_in j (targets (rec_at rs k)) ≡ b → either b (either (from_on rs k j) (either (from_next rs k j) (either (from_return rs k j) (from_wend rs k j)))) ≡ true → before j ≡ before (suc k)
       named false q r = choice (from_on rs k j) refl r
-      named true q r = good_before j (is_in_lem X j (targets (rec_at rs k)) q (trace_each tr k h).targets) ∙ sym (quiet_leaves k h (aimed_quiet j (rec_at rs k) q))
+      named true q r = good_before j (is_in_lem X j (targets (rec_at rs k)) q (trace_each tr k h).targets) ∙ sym (empty_leaves k h (targeted_empty j (rec_at rs k) q))
 
       next : (b : Bool) → eqb j (k + 1) ≡ b → either b (either (is_in j (targets (rec_at rs k))) (either (from_on rs k j) (either (from_next rs k j) (either (from_return rs k j) (from_wend rs k j))))) ≡ true → before j ≡ before (suc k)
       next true q r = let f : j ≡ suc k = eqb-true j (k + 1) q ∙ add-one k in rw f
@@ -198,7 +198,7 @@ module _ (E : List Entry) (X Y : ℕ → Type 0) (rs : List Rec) (tr : Trace E (
     first = piles_before 0 n ∙ first_is;
     leaves = λ k h. before (suc k);
     takes = λ k h. rw (piles_before k h) (step_before k h);
-    reaches = λ k h j i e. piles_before j i ∙ arrives k h j i e;
+    reaches = λ k h j i e. piles_before j i ∙ pile_there k h j i e;
   }
     where
       first_is : before 0 ≡ []
@@ -240,7 +240,7 @@ module _ (E : List Entry) (X Y : ℕ → Type 0) (rs : List Rec) (tr : Trace E (
     pub orderly : (addrs : List ℕ) → All X addrs → Orderly addrs rs ps
     orderly addrs a = record {
       statements = all_map X (λ (k : ℕ). (k < length rs) × (pile_at ps k ≡ [])) addrs empty_pile a;
-      body_begins = λ k h e. (omega (arith, body_behind k h e, (body_at k h e).within), rw (add-one k) (piles_empty E rs [] (suc k) (trace_quiet tr k h (rw e refl))));
+      body_begins = λ k h e. (omega (arith, body_behind k h e, (body_at k h e).within), rw (add-one k) (piles_empty E rs [] (suc k) (trace_empty tr k h (rw e refl))));
       body_closes = λ k h e. let b = body_at k h e in rw (body_place (rec_at rs k).c b) (body_behind k h e, b.within, b.closes);
       body_ends = λ k h e. let b = body_at k h e in rw (body_place (rec_at rs k).c b) (piles_at E rs [] (num ∷ []) b.at b.within b.pile);
       on_targets = λ k h. all_map X (λ (v : ℕ). (v < length rs) × (pile_at ps v ≡ [])) (targets (rec_at rs k)) empty_pile (trace_each tr k h).targets;
@@ -251,7 +251,7 @@ module _ (E : List Entry) (X Y : ℕ → Type 0) (rs : List Rec) (tr : Trace E (
 
 -- End
 end_step : (E : List Entry) (l : ℕ) → step E (end_rec l) [] ≡ given []
-unfolding step wants_of taken operands
+unfolding step effect_of taken operands
 end_step E l = refl
 
 pub finished_piles : (E : List Entry) (X Y : ℕ → Type 0) (rs : List Rec) (l : ℕ) (addrs : List ℕ) → Sound E X Y rs → All X addrs → ExactlyOne addrs E (rs ++ (end_rec l ∷ []))
@@ -264,7 +264,7 @@ finished_piles E X Y rs l addrs s a = exactly_one E X Y us tr good bodies ahead 
     long = length-append rs (end_rec l ∷ [])
 
     tr : Trace E (Full X Y) us [] []
-    tr = trace_append s.trace (Trace.go (end_step E l) (record { quiet = λ q. refl; on = λ q. absurd (omega arith) }) (record { targets = tt; body = λ q. absurd (omega arith) }) Trace.done)
+    tr = trace_append s.trace (Trace.go (end_step E l) (record { empty_behind = λ q. refl; on = λ q. absurd (omega arith) }) (record { targets = tt; body = λ q. absurd (omega arith) }) Trace.done)
 
     good : (T : ℕ) → X T → (T < length us) × (pile_in E us [] T ≡ given [])
     good T x =

@@ -2,7 +2,8 @@
 use Rattle.std.proofs.Common.{◌≡◌, ℕ, suc, ◌+◌, List, [], ◌∷◌, ◌++◌, length, sym, refl, ap, ◌∙◌, subst, append_assoc, arith, length-append}
 use lib.Seq.{get_or-append_seam}
 use Rattle.recorder.specs.declared.word.Range.{Range}
-use Rattle.recorder.specs.Recorder.{Recorder, unknown}
+use Rattle.recorder.specs.Numbers.{unknown}
+use Rattle.recorder.specs.Recorder.{Recorder}
 use Rattle.recorder.specs.Ideal.{Rec, rec, no_rec, Entry, Ideal, change, with_a, with_c}
 use Rattle.recorder.specs.Closing.{rules_r}
 use Rattle.sheet.specs.Tree.{Opt, absent, given, Expr, FieldSpec, Stmt, rem, op₀, op₁, op₂, op₃, draw, set, data_list, def, dim, field, for, go, if_then, if_else, input, assign, load, locate, next_of, on, open_file, print, read, restore, swap, system, while, write, Stmts, end, then}
@@ -10,11 +11,11 @@ use Rattle.rules.specs.declared.types.«Type».TheVariants.{Real}
 use Rattle.rules.specs.Expr.{opt_real_sym, real_sym, compile_typed}
 use Rattle.rules.specs.Stmt.{compile_def, end_def, compile_while, if_jump, else_jump, end_here, compile_stmt, compile_stmts}
 use Rattle.rules.specs.Missing.{All, Present, WholeExpr, WholeStmt, WholeStmts}
-use Rattle.rules.specs.Piles.{num, Pile, taken, wants_of, step}
+use Rattle.rules.specs.Piles.{num, Pile, taken, effect_of, step}
 use Rattle.rules.specs.Each.{each_stmt, each_stmts}
 use Rattle.rules.specs.Demand.{around}
-use Rattle.rules.proofs.PileLaws.{Flow, Side, Never, Plain, Ahead, ahead_append, flow_ahead, plain_one, plain_flow, flow_append, flow_map, flow_run, all_map, all_append, run, pile_in}
-use Rattle.rules.proofs.Grown.{Code, seq, put, stay, fails, void, with_ok, longer, patched, change_at}
+use Rattle.rules.proofs.PileLaws.{Flow, Side, NoTarget, Plain, Ahead, ahead_append, flow_ahead, plain_one, plain_flow, flow_append, flow_map, flow_run, all_map, all_append, run, pile_in}
+use Rattle.rules.proofs.Grown.{Code, seq, put, stay, fails, claims_nothing, with_ok, longer, patched, change_at}
 use Rattle.rules.proofs.ExprPiles.{Few, real_code, name_code}
 use Rattle.rules.proofs.Blocks.{Empty, Body, Good, good_nil, good_append, good_plain, good_stmt, empty_left, empty_right, body_left, body_right, first_empty, last_empty, pile_left, pile_right, pile_end}
 use Rattle.rules.proofs.OpPiles
@@ -70,7 +71,7 @@ all_pair X Y (x ∷ xs) a b = ((a.0, b.0), all_pair X Y xs a.1 b.1)
 module _ (E : List Entry) where
   -- WHILE: its condition starts where it begins
   while_step : (l : ℕ) (r : Range) (a b c : ℕ) → step E (rec 25 l r a b c) (num ∷ []) ≡ given []
-  unfolding step wants_of taken
+  unfolding step effect_of taken
   while_step l r a b c = refl
 
   good_while : (B l : ℕ) (r : Range) (b c : ℕ) (xs : List Rec) → Plain E xs [] (num ∷ []) → Good E B [] (xs ++ (rec 25 l r B b c ∷ []))
@@ -78,18 +79,18 @@ module _ (E : List Entry) where
       let ys = xs ++ (rec 25 l r B b c ∷ []) in
       record {
         flow = flow_append (plain_flow E (Empty E B ys) (Body E B ys) xs [] (num ∷ []) a)
-            (Flow.go (while_step l r B b c) (record { quiet = λ q. refl; fixed = (first_empty E B ys, tt); body = λ q. absurd (omega arith); on = λ q. absurd (omega arith) }) Flow.done);
+            (Flow.go (while_step l r B b c) (record { empty_behind = λ q. refl; fixed = (first_empty E B ys, tt); body = λ q. absurd (omega arith); on = λ q. absurd (omega arith) }) Flow.done);
         addrs = tt;
         ahead = ahead_append B (B + length xs) xs (rec 25 l r B b c ∷ []) refl (flow_ahead B a) (λ q. absurd (omega arith), tt);
       }
 
   -- DEF: the body stands between a 26 and a 27
   def_step : (l : ℕ) (r : Range) (a b c : ℕ) → step E (rec 26 l r a b c) [] ≡ given []
-  unfolding step wants_of taken
+  unfolding step effect_of taken
   def_step l r a b c = refl
 
   end_step : (l : ℕ) (r : Range) → Plain E (rec 27 l r 0 0 0 ∷ []) (num ∷ []) []
-  unfolding step wants_of taken
+  unfolding step effect_of taken
   end_step l r = plain_one E (rec 27 l r 0 0 0) (num ∷ []) [] refl refl
 
   run_def : (l : ℕ) (r : Range) (a b c : ℕ) → run E (rec 26 l r a b c ∷ []) [] ≡ given []
@@ -118,7 +119,7 @@ module _ (E : List Entry) where
           let all : pile_in E ((q ∷ []) ++ ys) [] (1 + length ys) ≡ given [] =
           pile_right E (q ∷ []) ys [] [] (length ys) (run_def l r n p T) ∙ pile_end E ys [] [] (flow_run (flow_append a (end_step m r))) in
           record {
-            quiet = λ e. refl;
+            empty_behind = λ e. refl;
             fixed = (record { at = 1 + length ys; place = omega (arith, length-append xs (z ∷ [])); within = omega arith; pile = all }, tt);
             body = λ e. record {
               at = 1 + length xs;
@@ -132,27 +133,27 @@ module _ (E : List Entry) where
 
   -- IF
   jz_step : (l : ℕ) (r : Range) (a : ℕ) → step E (rec 19 l r a 0 0) (num ∷ []) ≡ given []
-  unfolding step wants_of taken
+  unfolding step effect_of taken
   jz_step l r a = refl
 
   over_step : (l : ℕ) (r : Range) (a : ℕ) → step E (rec 20 l r a 0 0) [] ≡ given []
-  unfolding step wants_of taken
+  unfolding step effect_of taken
   over_step l r a = refl
 
   -- a condition and its jump
   test_flow : (X Y : ℕ → Type 0) (l : ℕ) (r : Range) (T : ℕ) (ce : List Rec) → X T → Plain E ce [] (num ∷ []) → Flow E X Y (ce ++ (rec 19 l r T 0 0 ∷ [])) [] []
   test_flow X Y l r T ce x a =
       flow_append (plain_flow E X Y ce [] (num ∷ []) a)
-      (Flow.go (jz_step l r T) (record { quiet = λ q. refl; fixed = (x, tt); body = λ q. absurd (omega arith); on = λ q. absurd (omega arith) }) Flow.done)
+      (Flow.go (jz_step l r T) (record { empty_behind = λ q. refl; fixed = (x, tt); body = λ q. absurd (omega arith); on = λ q. absurd (omega arith) }) Flow.done)
 
   test_run : (l : ℕ) (r : Range) (T : ℕ) (ce : List Rec) → Plain E ce [] (num ∷ []) → run E (ce ++ (rec 19 l r T 0 0 ∷ [])) [] ≡ given []
   test_run l r T ce a = flow_run (test_flow (λ v. Unit {0}) (λ v. Unit {0}) l r T ce tt a)
 
   test_ahead : (B l : ℕ) (r : Range) (T : ℕ) (ce : List Rec) → Plain E ce [] (num ∷ []) → Ahead B (ce ++ (rec 19 l r T 0 0 ∷ []))
-  test_ahead B l r T ce a = flow_ahead B (test_flow (λ v. Unit {0}) Never l r T ce tt a)
+  test_ahead B l r T ce a = flow_ahead B (test_flow (λ v. Unit {0}) NoTarget l r T ce tt a)
 
   over_flow : (X Y : ℕ → Type 0) (l : ℕ) (r : Range) (T : ℕ) → X T → Flow E X Y (rec 20 l r T 0 0 ∷ []) [] []
-  over_flow X Y l r T x = Flow.go (over_step l r T) (record { quiet = λ q. refl; fixed = (x, tt); body = λ q. absurd (omega arith); on = λ q. absurd (omega arith) }) Flow.done
+  over_flow X Y l r T x = Flow.go (over_step l r T) (record { empty_behind = λ q. refl; fixed = (x, tt); body = λ q. absurd (omega arith); on = λ q. absurd (omega arith) }) Flow.done
 
   good_then : (B l : ℕ) (r : Range) (T : ℕ) (ms : List ℕ) (ce ct : List Rec) → T ≡ B + length ce + length ct + 1 → Plain E ce [] (num ∷ []) → Good E (B + length ce + 1) ms ct
       → Good E B ms ((ce ++ (rec 19 l r T 0 0 ∷ [])) ++ ct)
@@ -307,10 +308,10 @@ module _ (E : List Entry) (few : Few E) (t : List ℕ) (base : ℕ) where
   def_code : (r : Range) (n p : Opt Range) (e : Expr) (i : Ideal) → Code E 0 i (compile_def R t base r n p e i) (Present n × Present p × WholeExpr e) (Block i [])
   unfolding compile_def
   def_code r absent p e i =
-      void E 0 (⊥ × Present p × WholeExpr e) (Block i []) (λ w. w.0)
+      claims_nothing E 0 (⊥ × Present p × WholeExpr e) (Block i []) (λ w. w.0)
       (seq E {d₁ = 1} {d₂ = 0} {W₁ = Unit {0}} {W = WholeExpr e} {A = λ xs. xs ≡ []} {B = One} {C = λ xs. Unit {0}} (name_code E few t base p i) (pushed E few t base Real tt e (opt_real_sym R t base p i).state) (λ w. tt) (λ w. w) (λ xs ys u v. tt))
   def_code r (given nr) absent e i =
-      void E 0 (Unit {0} × ⊥ × WholeExpr e) (Block i []) (λ w. w.1)
+      claims_nothing E 0 (Unit {0} × ⊥ × WholeExpr e) (Block i []) (λ w. w.1)
       (seq E {d₁ = 1} {d₂ = 0} {W₁ = Unit {0}} {W = WholeExpr e} {A = λ xs. xs ≡ []} {B = One} {C = λ xs. Unit {0}} (real_code E few t base nr i) (pushed E few t base Real tt e (real_sym R t base nr i).state) (λ w. tt) (λ w. w) (λ xs ys u v. tt))
   def_code r (given nr) (given pr) e i =
       let x = real_sym R t base nr i in

@@ -6,7 +6,7 @@ use Rattle.recorder.specs.Ideal.{Rec, no_rec, Entry}
 use Rattle.sheet.specs.Tree.{Opt, absent, given}
 use Rattle.rules.specs.Missing.{All}
 use Rattle.rules.specs.Piles.{num, Pile, step}
-use Rattle.rules.proofs.PileLaws.{and_then, run, pile_in, Side, Flow, Never, Plain, Ahead, ahead_append, flow_ahead, all_map, all_append, flow_append, flow_map, flow_run, plain_flow}
+use Rattle.rules.proofs.PileLaws.{and_then, run, pile_in, Side, Flow, NoTarget, Plain, Ahead, ahead_append, flow_ahead, all_map, all_append, flow_append, flow_map, flow_run, plain_flow}
 
 module _ (E : List Entry) where
   -- the pile inside a list, by its parts
@@ -125,26 +125,26 @@ module _ (E : List Entry) where
   good_stmt B C ms xs h a = record { flow = a.flow; addrs = (first_empty B xs, (last_empty B C xs h (flow_run a.flow), a.addrs)); ahead = a.ahead }
 
 -- a record behind which the pile is empty, and that has no targets and is no ON
-abbrev pub solo_call : ℕ → Bool
-solo_call k = pick (both (leb 19 k) (leb k 26)) (either (eqb k 23) (eqb k 24)) true
+abbrev pub untargeted_call : ℕ → Bool
+untargeted_call k = pick (both (leb 19 k) (leb k 26)) (either (eqb k 23) (eqb k 24)) true
 
-not_solo : (k n : ℕ) → solo_call k ≡ true → solo_call n ≡ false → eqb k n ≡ false
-not_solo k n e q = go (eqb k n) refl
+not_untargeted : (k n : ℕ) → untargeted_call k ≡ true → untargeted_call n ≡ false → eqb k n ≡ false
+not_untargeted k n e q = go (eqb k n) refl
   where
     go : (b : Bool) → eqb k n ≡ b → eqb k n ≡ false
     go false f = f
     go true f = let z : k ≡ n = eqb-true k n f in let y : ◌≡◌ {A = Bool} true false = sym e ∙ rw z q in let x : ◌≡◌ {A = ℕ} 0 1 = cc in absurd (omega arith)
 
-off : {A : Type 0} (k n : ℕ) → solo_call k ≡ true → solo_call n ≡ false → k ≡ n → A
+off : {A : Type 0} (k n : ℕ) → untargeted_call k ≡ true → untargeted_call n ≡ false → k ≡ n → A
 off k n e q z = let y : ◌≡◌ {A = Bool} true false = sym e ∙ rw z q in let x : ◌≡◌ {A = ℕ} 0 1 = cc in absurd (omega arith)
 
-pub solo_side : (X Y : ℕ → Type 0) (r : Rec) (rs : List Rec) → solo_call r.call ≡ true → Side X Y r [] rs
-solo_side X Y r rs e = record {
-  quiet = λ q. refl;
-  fixed = rw (not_solo r.call 19 e refl, not_solo r.call 20 e refl, not_solo r.call 21 e refl, not_solo r.call 25 e refl, not_solo r.call 26 e refl) tt;
+pub untargeted_side : (X Y : ℕ → Type 0) (r : Rec) (rs : List Rec) → untargeted_call r.call ≡ true → Side X Y r [] rs
+untargeted_side X Y r rs e = record {
+  empty_behind = λ q. refl;
+  fixed = rw (not_untargeted r.call 19 e refl, not_untargeted r.call 20 e refl, not_untargeted r.call 21 e refl, not_untargeted r.call 25 e refl, not_untargeted r.call 26 e refl) tt;
   body = λ q. off r.call 26 e refl q;
   on = λ q. off r.call 22 e refl q;
 }
 
-pub solo : (E : List Entry) (r : Rec) (P : Pile) → solo_call r.call ≡ true → step E r P ≡ given [] → Plain E (r ∷ []) P []
-solo E r P e s = Flow.go s (solo_side Never Never r [] e) Flow.done
+pub untargeted : (E : List Entry) (r : Rec) (P : Pile) → untargeted_call r.call ≡ true → step E r P ≡ given [] → Plain E (r ∷ []) P []
+untargeted E r P e s = Flow.go s (untargeted_side NoTarget NoTarget r [] e) Flow.done

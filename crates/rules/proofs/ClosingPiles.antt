@@ -2,15 +2,16 @@
 use Rattle.std.proofs.Common.{◌≡◌, ℕ, suc, ◌+◌, ◌-◌, ◌<◌, Bool, true, false, eqb, ltb, leb, ◌≢◌, ◌⊎◌, List, [], ◌∷◌, ◌++◌, length, get_or, sym, refl, ap, ◌∙◌, subst, inl, inr, append_assoc, append-nil, arith, length-append, get_or-append-add, ltb-false, eq-eqb, eqb-true, leb-true}
 use lib.Seq.{get_or-append_seam}
 use borrow.Author.Tests.{eqb-false}
+use Rattle.recorder.specs.Calls.{unpack}
 use Rattle.recorder.specs.Word.{pick, choose, both, either}
-use Rattle.recorder.specs.Recorder.{Recorder, unpack}
+use Rattle.recorder.specs.Recorder.{Recorder}
 use Rattle.recorder.specs.Ideal.{Rec, rec, no_rec, Note, note_of, Entry, Ideal, change, settled, unlabelled, with_b, look_of, Search, missing, found}
 use Rattle.recorder.specs.Marks.{Mark, addr_of, data_of, or_else}
 use Rattle.recorder.specs.Closing.{rules_r, is_wend, is_while, closes, opened, end_from, end_at, close_whiles, open_note, open_notes}
 use Rattle.recorder.proofs.Bools.{both_left, both_right}
 use Rattle.rules.specs.Program.{Waiting, jumps, restores, is_pending, settle_by, settle_waiting, resolve}
 use Rattle.rules.specs.Missing.{All}
-use Rattle.rules.specs.Piles.{Pile, wants_of, taken, step}
+use Rattle.rules.specs.Piles.{Pile, effect_of, taken, step}
 use Rattle.rules.specs.Demand.{NoError, targets}
 use Rattle.rules.proofs.BoolLaws.{not_both}
 use Rattle.rules.proofs.PileLaws.{fixed_targets, is_jump_call, all_left, all_right}
@@ -119,7 +120,7 @@ found_mark X (m ∷ ms) l v a e = go (addr_of ms l) refl (eqb m.label l) e (foun
     go missing f false q h = let z : ◌≡◌ {A = ℕ} 0 1 = cc in absurd (omega arith)
 
 -- what a record with every target asks
-pub record Aimed (X Y : ℕ → Type 0) (r : Rec) : Type 0 where
+pub record Targeted (X Y : ℕ → Type 0) (r : Rec) : Type 0 where
   pub fixed : Fixed X Y r
   pub settled : is_jump_call r.call ≡ true → r.b ≡ 0
 
@@ -142,16 +143,16 @@ Bare k = (k ≡ 20) ⊎ ((k ≡ 21) ⊎ ((k ≡ 31) ⊎ (k ≡ 25)))
 module _ (E : List Entry) (X Y : ℕ → Type 0) where
   -- a record that names no place and is no jump, whatever its arguments
   same_step : (r : Rec) (a b c k : ℕ) → r.call ≡ k → Bare k → (P : Pile) → step E (rec r.call r.line r.range a b c) P ≡ step E r P
-  unfolding step wants_of taken
+  unfolding step effect_of taken
   same_step r a b c k e (inl i) P = rw (e, i) refl
   same_step r a b c k e (inr (inl i)) P = rw (e, i) refl
   same_step r a b c k e (inr (inr (inl i))) P = rw (e, i) refl
   same_step r a b c k e (inr (inr (inr i))) P = rw (e, i) refl
 
-  jump_alike : (v : ℕ) (r : Rec) → is_jump_call r.call ≡ true → X v → Alike E (Fixed X Y) (Aimed X Y) r (settled v r)
+  jump_alike : (v : ℕ) (r : Rec) → is_jump_call r.call ≡ true → X v → Alike E (Fixed X Y) (Targeted X Y) r (settled v r)
   jump_alike v r e x = go (jump_cases r.call e)
     where
-      go : (r.call ≡ 20) ⊎ (r.call ≡ 21) → Alike E (Fixed X Y) (Aimed X Y) r (settled v r)
+      go : (r.call ≡ 20) ⊎ (r.call ≡ 21) → Alike E (Fixed X Y) (Targeted X Y) r (settled v r)
       go (inl q) = record {
         steps = same_step r v 0 0 20 q (inl refl);
         call = refl;
@@ -168,10 +169,10 @@ module _ (E : List Entry) (X Y : ℕ → Type 0) where
       }
 
   label_alike : (ms : List Mark) (r : Rec) → All (λ (m : Mark). X m.addr) ms → Settles jumps ms r
-      → Alike E (Fixed X Y) (Aimed X Y) r (settle_to jumps ms r)
+      → Alike E (Fixed X Y) (Targeted X Y) r (settle_to jumps ms r)
   label_alike ms r a f = go (is_pending jumps (look_of r)) refl (addr_of ms (r.b - 1)) refl f
     where
-      go : (p : Bool) → is_pending jumps (look_of r) ≡ p → (s : Search) → addr_of ms (r.b - 1) ≡ s → Finds p 1 s → Alike E (Fixed X Y) (Aimed X Y) r (pick p (settle_rec s r) r)
+      go : (p : Bool) → is_pending jumps (look_of r) ≡ p → (s : Search) → addr_of ms (r.b - 1) ≡ s → Finds p 1 s → Alike E (Fixed X Y) (Targeted X Y) r (pick p (settle_rec s r) r)
       go false p s q g = record {
         steps = λ P. refl;
         call = refl;
@@ -182,7 +183,7 @@ module _ (E : List Entry) (X Y : ℕ → Type 0) where
       go true p (found v) q g = jump_alike v r (both_right (ltb 0 r.b) (is_jump_call r.call) p) (found_mark X ms (r.b - 1) v a q)
       go true p missing q g = let u = g refl refl in let e : missing ≡ found u.0 = u.1 in let z : ◌≡◌ {A = ℕ} 0 1 = cc in absurd (omega arith)
 
-  restore_call : (r : Rec) (v : ℕ) → r.call ≡ 31 → Alike E (Aimed X Y) (Aimed X Y) r (rec r.call r.line r.range v 0 0)
+  restore_call : (r : Rec) (v : ℕ) → r.call ≡ 31 → Alike E (Targeted X Y) (Targeted X Y) r (rec r.call r.line r.range v 0 0)
   restore_call r v q = record {
     steps = same_step r v 0 0 31 q (inr (inr (inl refl)));
     call = refl;
@@ -191,25 +192,25 @@ module _ (E : List Entry) (X Y : ℕ → Type 0) where
     asked = λ z. record { fixed = record { fixed = rw q tt; body = λ y. absurd (omega (arith, q)) }; settled = λ y. refl };
   }
 
-  restore_alike : (ms : List Mark) (r : Rec) → Alike E (Aimed X Y) (Aimed X Y) r (settle_to restores ms r)
+  restore_alike : (ms : List Mark) (r : Rec) → Alike E (Targeted X Y) (Targeted X Y) r (settle_to restores ms r)
   restore_alike ms r = go (is_pending restores (look_of r)) refl (data_of ms (r.b - 1))
     where
-      go : (p : Bool) → is_pending restores (look_of r) ≡ p → (s : Search) → Alike E (Aimed X Y) (Aimed X Y) r (pick p (settle_rec s r) r)
+      go : (p : Bool) → is_pending restores (look_of r) ≡ p → (s : Search) → Alike E (Targeted X Y) (Targeted X Y) r (pick p (settle_rec s r) r)
       go false p s = record { steps = λ P. refl; call = refl; count = λ z. refl; end = λ z. refl; asked = λ z. z }
       go true p (found v) = restore_call r v (eqb-true r.call 31 (both_right (ltb 0 r.b) (eqb r.call 31) p))
       go true p missing = restore_call r r.a (eqb-true r.call 31 (both_right (ltb 0 r.b) (eqb r.call 31) p))
 
   pub label_zip : (ms : List Mark) (rs : List Rec) → All (λ (m : Mark). X m.addr) ms → All (Settles jumps ms) rs
-      → Zip (Alike E (Fixed X Y) (Aimed X Y)) rs (each (settle_to jumps ms) rs)
+      → Zip (Alike E (Fixed X Y) (Targeted X Y)) rs (each (settle_to jumps ms) rs)
   label_zip ms [] a f = Zip.none
   label_zip ms (r ∷ rs) a f = Zip.more (label_alike ms r a f.0) (label_zip ms rs a f.1)
 
-  pub restore_zip : (ms : List Mark) (rs : List Rec) → Zip (Alike E (Aimed X Y) (Aimed X Y)) rs (each (settle_to restores ms) rs)
+  pub restore_zip : (ms : List Mark) (rs : List Rec) → Zip (Alike E (Targeted X Y) (Targeted X Y)) rs (each (settle_to restores ms) rs)
   restore_zip ms [] = Zip.none
   restore_zip ms (r ∷ rs) = Zip.more (restore_alike ms r) (restore_zip ms rs)
 
   -- every target of a record that is no WHILE
-  all_targets : (r : Rec) → eqb r.call 25 ≡ false → Aimed X Y r → All X (targets r)
+  all_targets : (r : Rec) → eqb r.call 25 ≡ false → Targeted X Y r → All X (targets r)
   all_targets r w a = go (eqb r.call 19) refl (eqb r.call 20) refl (eqb r.call 21) refl a.fixed.fixed a.settled
     where
       go : (p : Bool) → eqb r.call 19 ≡ p → (q : Bool) → eqb r.call 20 ≡ q → (s : Bool) → eqb r.call 21 ≡ s
@@ -230,7 +231,7 @@ module _ (E : List Entry) (X Y : ℕ → Type 0) where
               let e₃ : r.call ≢ 21 = λ z. eqb-false r.call 21 g z in
               absurd (omega (arith, l, m, e₁, e₂, e₃))
 
-  while_alike : (e : ℕ) (r : Rec) → eqb r.call 25 ≡ true → X e → Alike E (Aimed X Y) (Full X Y) r (with_b e r)
+  while_alike : (e : ℕ) (r : Rec) → eqb r.call 25 ≡ true → X e → Alike E (Targeted X Y) (Full X Y) r (with_b e r)
   while_alike e r w x =
       let q : r.call ≡ 25 = eqb-true r.call 25 w in
       record {
@@ -244,7 +245,7 @@ module _ (E : List Entry) (X Y : ℕ → Type 0) where
       first : r.call ≡ 25 → All X (fixed_targets r) → X r.a
       first q a = (rw q at a).0
 
-  other_alike : (r : Rec) → eqb r.call 25 ≡ false → Alike E (Aimed X Y) (Full X Y) r r
+  other_alike : (r : Rec) → eqb r.call 25 ≡ false → Alike E (Targeted X Y) (Full X Y) r r
   other_alike r w = record { steps = λ P. refl; call = refl; count = λ z. refl; end = λ z. refl; asked = λ z. record { targets = all_targets r w z; body = z.fixed.body } }
 
   -- the end of a WHILE is one past a WEND
@@ -270,7 +271,7 @@ module _ (E : List Entry) (X Y : ℕ → Type 0) where
       next false h f = f h
 
   close_zip : (whole front rs : List Rec) (k : ℕ) → whole ≡ front ++ rs → k ≡ length front → NoError (open_notes rs) → ((n : ℕ) → n < length whole → is_wend (get_or whole n no_rec) ≡ true → X (suc n))
-      → Zip (Alike E (Aimed X Y) (Full X Y)) rs (close_whiles rs k)
+      → Zip (Alike E (Targeted X Y) (Full X Y)) rs (close_whiles rs k)
   unfolding close_whiles open_notes
   close_zip whole front [] k e h n x = Zip.none
   close_zip whole front (r ∷ rs) k e h n x =
@@ -283,7 +284,7 @@ module _ (E : List Entry) (X Y : ℕ → Type 0) where
           let i : suc (k + j) ≡ length front + suc j = omega (arith, h) in
           rw (i, e) (get_or-append-add front (r ∷ rs) (suc j) no_rec)
 
-      next : (b : Bool) → is_while r ≡ b → (s : Search) → end_from rs 0 0 ≡ s → (u : Search) → end_from rs 0 (suc k) ≡ u → NoError (pick b (open_note s r) []) → Alike E (Aimed X Y) (Full X Y) r (pick b (end_at u r) r)
+      next : (b : Bool) → is_while r ≡ b → (s : Search) → end_from rs 0 0 ≡ s → (u : Search) → end_from rs 0 (suc k) ≡ u → NoError (pick b (open_note s r) []) → Alike E (Targeted X Y) (Full X Y) r (pick b (end_at u r) r)
       next false b s p u q m = other_alike r b
       next true b missing p u q m = absurd (omega (arith, m.0))
       next true b (found s) p missing q m = let z : found s ≡ missing = sym p ∙ end_shift rs 0 (suc k) 0 q in let y : ◌≡◌ {A = ℕ} 0 1 = cc in absurd (omega arith)
@@ -294,5 +295,5 @@ module _ (E : List Entry) (X Y : ℕ → Type 0) where
           let f : v ≡ suc (suc (k + w.0)) = omega (arith, w.3) in
           while_alike v r b (rw f g)
 
-  pub while_zip : (rs : List Rec) → NoError (open_notes rs) → ((n : ℕ) → n < length rs → is_wend (get_or rs n no_rec) ≡ true → X (suc n)) → Zip (Alike E (Aimed X Y) (Full X Y)) rs (close_whiles rs 0)
+  pub while_zip : (rs : List Rec) → NoError (open_notes rs) → ((n : ℕ) → n < length rs → is_wend (get_or rs n no_rec) ≡ true → X (suc n)) → Zip (Alike E (Targeted X Y) (Full X Y)) rs (close_whiles rs 0)
   while_zip rs n x = close_zip rs [] rs 0 refl refl n x

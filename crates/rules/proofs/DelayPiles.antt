@@ -7,12 +7,12 @@ use Rattle.recorder.proofs.Bools.{both_left, both_right}
 use Rattle.simulation.proofs.Clean.{delay_length}
 use Rattle.sheet.specs.Tree.{absent, given}
 use Rattle.rules.specs.Tables.{operand}
-use Rattle.rules.specs.Piles.{Kind, num, txt, plc, Pile, kind_of, symbol_type, operands, wants_of, taken, step}
+use Rattle.rules.specs.Piles.{Kind, num, txt, plc, Pile, kind_of, symbol_type, operands, effect_of, taken, step}
 use Rattle.rules.proofs.BoolLaws.{no_one, either_of}
 use Rattle.rules.proofs.PileLaws.{pile_in, is_jump_call, Jumps, Ahead}
 use Rattle.rules.proofs.Blocks.{Empty, Body}
 use Rattle.rules.proofs.Grown.{change_append}
-use Rattle.rules.proofs.Traces.{Quiet, Trace}
+use Rattle.rules.proofs.Traces.{EmptyBehind, Trace}
 use Rattle.rules.proofs.ClosingPiles.{Full}
 
 pub start_call : (r : Rec) → is_start r ≡ true → r.call ≡ 3
@@ -40,34 +40,34 @@ next_call f r e = eqb-true r.call 24 (both_left (eqb r.call 24) (either (eqb r.a
 
 module _ (E : List Entry) where
   step_number : (r : Rec) → r.call ≡ 3 → (P : Pile) → step E r P ≡ given (num ∷ P)
-  unfolding step wants_of taken
+  unfolding step effect_of taken
   step_number r e P = rw e refl
 
   step_var : (r : Rec) → r.call ≡ 5 → (P : Pile) → step E r P ≡ given (kind_of (symbol_type E r.a) ∷ P)
-  unfolding step wants_of taken
+  unfolding step effect_of taken
   step_var r e P = rw e refl
 
   step_next : (r : Rec) → r.call ≡ 24 → (P : Pile) → step E r P ≡ given P
-  unfolding step wants_of taken
+  unfolding step effect_of taken
   step_next r e P = rw e refl
 
   step_none : (r : Rec) (P : Pile) → step E (no_op r) P ≡ given P
-  unfolding step wants_of taken
+  unfolding step effect_of taken
   step_none r P = refl
 
   step_sleep : (r : Rec) (P : Pile) → step E (sleep r) (num ∷ P) ≡ given P
-  unfolding step wants_of taken operands operand
+  unfolding step effect_of taken operands operand
   step_sleep r P = refl
 
   -- FOR takes two numbers, or three
   for_two : (r : Rec) (k : Kind) (P Q : Pile) → r.call ≡ 23 → r.b ≡ 0 → step E r (k ∷ num ∷ P) ≡ given Q → (k ≡ num) × (Q ≡ P)
-  unfolding step wants_of taken
+  unfolding step effect_of taken
   for_two r num P Q e b s = let z : given P ≡ given Q = rw (e, b) at s in (refl, cc)
   for_two r txt P Q e b s = let z : absent ≡ given Q = rw (e, b) at s in let y : ◌≡◌ {A = ℕ} 0 1 = cc in absurd (omega arith)
   for_two r (plc x) P Q e b s = let z : absent ≡ given Q = rw (e, b) at s in let y : ◌≡◌ {A = ℕ} 0 1 = cc in absurd (omega arith)
 
   for_three : (r : Rec) (k : Kind) (P Q : Pile) → r.call ≡ 23 → r.b ≡ 1 → step E r (num ∷ k ∷ num ∷ P) ≡ given Q → (k ≡ num) × (Q ≡ P)
-  unfolding step wants_of taken
+  unfolding step effect_of taken
   for_three r num P Q e b s = let z : given P ≡ given Q = rw (e, b) at s in (refl, cc)
   for_three r txt P Q e b s = let z : absent ≡ given Q = rw (e, b) at s in let y : ◌≡◌ {A = ℕ} 0 1 = cc in absurd (omega arith)
   for_three r (plc x) P Q e b s = let z : absent ≡ given Q = rw (e, b) at s in let y : ◌≡◌ {A = ℕ} 0 1 = cc in absurd (omega arith)
@@ -81,15 +81,15 @@ module _ (E : List Entry) where
     pub old : (r.call ≡ 3) ⊎ (r.call ≡ 5)
 
   ends : (r : Rec) → (r.call ≡ 3) ⊎ (r.call ≡ 5) → Ends r
-  unfolding step wants_of taken
+  unfolding step effect_of taken
   ends r (inl e) = record { kind = num; steps = step_number r e; whole = λ P. rw e refl; call = inl (rw e refl); old = inl e }
   ends r (inr e) = record { kind = kind_of (symbol_type E r.a); steps = step_var r e; whole = λ P. rw e refl; call = inr (rw e refl); old = inr e }
 
   -- a record of a window asks for nothing besides
-  bare_quiet : (r : Rec) (Q : Pile) (rs : List Rec) (k : ℕ) → r.call ≡ k → (k ≡ 1) ⊎ ((k ≡ 3) ⊎ (k ≡ 5)) → Quiet r Q rs
-  bare_quiet r Q rs k e (inl i) = record { quiet = λ q. no_one (rw (e, i) at q); on = λ q. absurd (omega (arith, e, i)) }
-  bare_quiet r Q rs k e (inr (inl i)) = record { quiet = λ q. no_one (rw (e, i) at q); on = λ q. absurd (omega (arith, e, i)) }
-  bare_quiet r Q rs k e (inr (inr i)) = record { quiet = λ q. no_one (rw (e, i) at q); on = λ q. absurd (omega (arith, e, i)) }
+  bare_empty : (r : Rec) (Q : Pile) (rs : List Rec) (k : ℕ) → r.call ≡ k → (k ≡ 1) ⊎ ((k ≡ 3) ⊎ (k ≡ 5)) → EmptyBehind r Q rs
+  bare_empty r Q rs k e (inl i) = record { empty_behind = λ q. no_one (rw (e, i) at q); on = λ q. absurd (omega (arith, e, i)) }
+  bare_empty r Q rs k e (inr (inl i)) = record { empty_behind = λ q. no_one (rw (e, i) at q); on = λ q. absurd (omega (arith, e, i)) }
+  bare_empty r Q rs k e (inr (inr i)) = record { empty_behind = λ q. no_one (rw (e, i) at q); on = λ q. absurd (omega (arith, e, i)) }
 
   module _ (X Y : ℕ → Type 0) where
     abbrev Z : Rec → Type 0
@@ -124,7 +124,7 @@ module _ (E : List Entry) where
         jumps (suc n) j = (j.0, s.jumps n j.1)
 
         trace : (M U : Pile) → Trace E Z (r ∷ A) M U → Trace E Z (r ∷ B) M U
-        trace M U (Trace.go {Q = Q} e q z a) = Trace.go e (record { quiet = q.quiet; on = λ w. s.jumps r.a (q.on w) }) z (s.trace Q U a)
+        trace M U (Trace.go {Q = Q} e q z a) = Trace.go e (record { empty_behind = q.empty_behind; on = λ w. s.jumps r.a (q.on w) }) z (s.trace Q U a)
 
         empties : (M U : Pile) → Trace E Z (r ∷ A) M U → (m : ℕ) → pile_in E (r ∷ A) M m ≡ given [] → pile_in E (r ∷ B) M m ≡ given []
         empties M U (Trace.go {Q = Q} e q z a) zero h = unfold pile_in in h
@@ -165,7 +165,7 @@ module _ (E : List Entry) where
         let w = for_two r₂ f.c₁.kind M Q₂ f.c₂ f.b₂ t₂ in
         let e₃ : given Q₂ ≡ given Q₃ = sym (step_next r₃ f.c₃ Q₂) ∙ s₃ in
         let p₃ : Q₃ ≡ M = cc w.1 in
-        let n : Q₂ ≡ [] = q₂.quiet (rw f.c₂ refl) in
+        let n : Q₂ ≡ [] = q₂.empty_behind (rw f.c₂ refl) in
         record { number = w.0; empty = cc w.1; rest = subst (λ (z : Pile). Trace E Z back z U) p₃ a }
 
     -- the piles inside, before and after
@@ -177,7 +177,7 @@ module _ (E : List Entry) where
         rw (step_number r₀ f.c₀ M, e₁, two_numbers r₂ M f.c₂ f.b₂, step_next r₃ f.c₃ M) refl
       where
         two_numbers : (r : Rec) (P : Pile) → r.call ≡ 23 → r.b ≡ 0 → step E r (num ∷ num ∷ P) ≡ given P
-        two_numbers r P e b = unfold step wants_of taken in rw (e, b) refl
+        two_numbers r P e b = unfold step effect_of taken in rw (e, b) refl
 
     four_new : (r₀ r₁ r₂ r₃ : Rec) (back : List Rec) (M : Pile) (f : Four r₀ r₁ r₂ r₃) → f.c₁.kind ≡ num → (m : ℕ)
         → (pile_in E (no_op r₀ ∷ whole_end r₁ ∷ sleep r₂ ∷ no_op r₃ ∷ back) M (suc (suc (suc (suc m)))) ≡ pile_in E back M m)
@@ -190,14 +190,14 @@ module _ (E : List Entry) where
     four_trace : (r₀ r₁ r₂ r₃ : Rec) (back : List Rec) (M U : Pile) (f : Four r₀ r₁ r₂ r₃) → Passed f.c₁.kind back M U → Trace E Z (no_op r₀ ∷ whole_end r₁ ∷ sleep r₂ ∷ no_op r₃ ∷ back) M U
     four_trace r₀ r₁ r₂ r₃ back M U f p =
         let e₁ : step E (whole_end r₁) M ≡ given (num ∷ M) = f.c₁.whole M ∙ rw p.number refl in
-        Trace.go (step_none r₀ M) (bare_quiet (no_op r₀) M _ 1 refl (inl refl)) (bare_full (no_op r₀) 1 refl (inl refl))
-        (Trace.go e₁ (end_quiet f.c₁.call) (end_full f.c₁.call)
-        (Trace.go (step_sleep r₂ M) (record { quiet = λ q. p.empty; on = λ q. absurd (omega arith) }) (sleep_full r₂)
-        (Trace.go (step_none r₃ M) (bare_quiet (no_op r₃) M back 1 refl (inl refl)) (bare_full (no_op r₃) 1 refl (inl refl)) p.rest)))
+        Trace.go (step_none r₀ M) (bare_empty (no_op r₀) M _ 1 refl (inl refl)) (bare_full (no_op r₀) 1 refl (inl refl))
+        (Trace.go e₁ (end_empty f.c₁.call) (end_full f.c₁.call)
+        (Trace.go (step_sleep r₂ M) (record { empty_behind = λ q. p.empty; on = λ q. absurd (omega arith) }) (sleep_full r₂)
+        (Trace.go (step_none r₃ M) (bare_empty (no_op r₃) M back 1 refl (inl refl)) (bare_full (no_op r₃) 1 refl (inl refl)) p.rest)))
       where
-        end_quiet : ((whole_end r₁).call ≡ 3) ⊎ ((whole_end r₁).call ≡ 5) → Quiet (whole_end r₁) (num ∷ M) (sleep r₂ ∷ no_op r₃ ∷ back)
-        end_quiet (inl e) = bare_quiet (whole_end r₁) (num ∷ M) (sleep r₂ ∷ no_op r₃ ∷ back) 3 e (inr (inl refl))
-        end_quiet (inr e) = bare_quiet (whole_end r₁) (num ∷ M) (sleep r₂ ∷ no_op r₃ ∷ back) 5 e (inr (inr refl))
+        end_empty : ((whole_end r₁).call ≡ 3) ⊎ ((whole_end r₁).call ≡ 5) → EmptyBehind (whole_end r₁) (num ∷ M) (sleep r₂ ∷ no_op r₃ ∷ back)
+        end_empty (inl e) = bare_empty (whole_end r₁) (num ∷ M) (sleep r₂ ∷ no_op r₃ ∷ back) 3 e (inr (inl refl))
+        end_empty (inr e) = bare_empty (whole_end r₁) (num ∷ M) (sleep r₂ ∷ no_op r₃ ∷ back) 5 e (inr (inr refl))
 
         end_full : ((whole_end r₁).call ≡ 3) ⊎ ((whole_end r₁).call ≡ 5) → Full X Y (whole_end r₁)
         end_full (inl e) = bare_full (whole_end r₁) 3 e (inr (inl refl))
@@ -277,7 +277,7 @@ module _ (E : List Entry) where
         let w = for_three r₃ f.c₁.kind M Q₃ f.c₃ f.b₃ t₃ in
         let e₄ : given Q₃ ≡ given Q₄ = sym (step_next r₄ f.c₄ Q₃) ∙ s₄ in
         let p₄ : Q₄ ≡ M = cc w.1 in
-        let n : Q₃ ≡ [] = q₃.quiet (rw f.c₃ refl) in
+        let n : Q₃ ≡ [] = q₃.empty_behind (rw f.c₃ refl) in
         record { number = w.0; empty = cc w.1; rest = subst (λ (z : Pile). Trace E Z back z U) p₄ a }
 
     five_old : (r₀ r₁ r₂ r₃ r₄ : Rec) (back : List Rec) (M : Pile) (f : Five r₀ r₁ r₂ r₃ r₄) → f.c₁.kind ≡ num → (m : ℕ)
@@ -288,7 +288,7 @@ module _ (E : List Entry) where
         rw (step_number r₀ f.c₀ M, e₁, step_number r₂ f.c₂ (num ∷ num ∷ M), three_numbers r₃ M f.c₃ f.b₃, step_next r₄ f.c₄ M) refl
       where
         three_numbers : (r : Rec) (P : Pile) → r.call ≡ 23 → r.b ≡ 1 → step E r (num ∷ num ∷ num ∷ P) ≡ given P
-        three_numbers r P e b = unfold step wants_of taken in rw (e, b) refl
+        three_numbers r P e b = unfold step effect_of taken in rw (e, b) refl
 
     five_new : (r₀ r₁ r₂ r₃ r₄ : Rec) (back : List Rec) (M : Pile) (f : Five r₀ r₁ r₂ r₃ r₄) → f.c₁.kind ≡ num → (m : ℕ)
         → (pile_in E (no_op r₀ ∷ whole_end r₁ ∷ no_op r₂ ∷ sleep r₃ ∷ no_op r₄ ∷ back) M (suc (suc (suc (suc (suc m))))) ≡ pile_in E back M m)
@@ -301,15 +301,15 @@ module _ (E : List Entry) where
     five_trace : (r₀ r₁ r₂ r₃ r₄ : Rec) (back : List Rec) (M U : Pile) (f : Five r₀ r₁ r₂ r₃ r₄) → Passed f.c₁.kind back M U → Trace E Z (no_op r₀ ∷ whole_end r₁ ∷ no_op r₂ ∷ sleep r₃ ∷ no_op r₄ ∷ back) M U
     five_trace r₀ r₁ r₂ r₃ r₄ back M U f p =
         let e₁ : step E (whole_end r₁) M ≡ given (num ∷ M) = f.c₁.whole M ∙ rw p.number refl in
-        Trace.go (step_none r₀ M) (bare_quiet (no_op r₀) M _ 1 refl (inl refl)) (bare_full (no_op r₀) 1 refl (inl refl))
-        (Trace.go e₁ (end_quiet f.c₁.call) (end_full f.c₁.call)
-        (Trace.go (step_none r₂ (num ∷ M)) (bare_quiet (no_op r₂) (num ∷ M) _ 1 refl (inl refl)) (bare_full (no_op r₂) 1 refl (inl refl))
-        (Trace.go (step_sleep r₃ M) (record { quiet = λ q. p.empty; on = λ q. absurd (omega arith) }) (sleep_full r₃)
-        (Trace.go (step_none r₄ M) (bare_quiet (no_op r₄) M back 1 refl (inl refl)) (bare_full (no_op r₄) 1 refl (inl refl)) p.rest))))
+        Trace.go (step_none r₀ M) (bare_empty (no_op r₀) M _ 1 refl (inl refl)) (bare_full (no_op r₀) 1 refl (inl refl))
+        (Trace.go e₁ (end_empty f.c₁.call) (end_full f.c₁.call)
+        (Trace.go (step_none r₂ (num ∷ M)) (bare_empty (no_op r₂) (num ∷ M) _ 1 refl (inl refl)) (bare_full (no_op r₂) 1 refl (inl refl))
+        (Trace.go (step_sleep r₃ M) (record { empty_behind = λ q. p.empty; on = λ q. absurd (omega arith) }) (sleep_full r₃)
+        (Trace.go (step_none r₄ M) (bare_empty (no_op r₄) M back 1 refl (inl refl)) (bare_full (no_op r₄) 1 refl (inl refl)) p.rest))))
       where
-        end_quiet : ((whole_end r₁).call ≡ 3) ⊎ ((whole_end r₁).call ≡ 5) → Quiet (whole_end r₁) (num ∷ M) (no_op r₂ ∷ sleep r₃ ∷ no_op r₄ ∷ back)
-        end_quiet (inl e) = bare_quiet (whole_end r₁) (num ∷ M) (no_op r₂ ∷ sleep r₃ ∷ no_op r₄ ∷ back) 3 e (inr (inl refl))
-        end_quiet (inr e) = bare_quiet (whole_end r₁) (num ∷ M) (no_op r₂ ∷ sleep r₃ ∷ no_op r₄ ∷ back) 5 e (inr (inr refl))
+        end_empty : ((whole_end r₁).call ≡ 3) ⊎ ((whole_end r₁).call ≡ 5) → EmptyBehind (whole_end r₁) (num ∷ M) (no_op r₂ ∷ sleep r₃ ∷ no_op r₄ ∷ back)
+        end_empty (inl e) = bare_empty (whole_end r₁) (num ∷ M) (no_op r₂ ∷ sleep r₃ ∷ no_op r₄ ∷ back) 3 e (inr (inl refl))
+        end_empty (inr e) = bare_empty (whole_end r₁) (num ∷ M) (no_op r₂ ∷ sleep r₃ ∷ no_op r₄ ∷ back) 5 e (inr (inr refl))
 
         end_full : ((whole_end r₁).call ≡ 3) ⊎ ((whole_end r₁).call ≡ 5) → Full X Y (whole_end r₁)
         end_full (inl e) = bare_full (whole_end r₁) 3 e (inr (inl refl))

@@ -1,5 +1,5 @@
 -- A whole expression that is compiled without an error leaves the pile that it found, with one thing of its kind on top.
-use Rattle.std.proofs.Common.{◌≡◌, ℕ, zero, suc, ◌+◌, ◌-◌, ◌<◌, ◌≤◌, Bool, true, false, eqb, ltb, List, [], ◌∷◌, ◌++◌, length, get_or, take, replicate, sym, refl, ap, ◌∙◌, append_assoc, append-nil, arith, ltb-false}
+use Rattle.std.proofs.Common.{◌≡◌, ℕ, zero, suc, ◌+◌, ◌-◌, ◌<◌, ◌≤◌, Bool, true, false, eqb, ltb, List, [], ◌∷◌, ◌++◌, length, get_or, take, replicate, sym, refl, ap, ◌∙◌, append_assoc, append-nil, arith, ltb-false, le-leb}
 use Rattle.recorder.specs.Word.{pick, either}
 use Rattle.recorder.specs.declared.word.Range.{Range}
 use Rattle.recorder.specs.Recorder.{Recorder}
@@ -13,10 +13,10 @@ use Rattle.rules.specs.Name.{text_place, read_name}
 use Rattle.rules.specs.Tables.{Signature, signatures, signature_of, real_of_real, wanted, every_real, tab, spc}
 use Rattle.rules.specs.Expr.{Out, compile_sym, check_type, check_real, real_sym, var_node, text_node, number_node, arity_notes, func_notes, func_node, opt_real_sym, user_call, like_node, arith_node, binary_node, unary_node, index_node, is_add, quoted_start, quoted_length, compile_expr, compile_args, compile_typed}
 use Rattle.rules.specs.Missing.{All, Present, WholeExpr, WholeExprs}
-use Rattle.rules.specs.Piles.{num, txt, Pile, Want, fits, taken, symbol_type, want_of, kind_of, numbers, arguments, wants_of, step}
+use Rattle.rules.specs.Piles.{num, txt, Pile, Want, fits, taken, symbol_type, want_of, kind_of, numbers, arguments, effect_of, allows, step}
 use Rattle.rules.proofs.PileLaws.{Flow, Plain, plain_one, flow_append, Turns}
 use Rattle.rules.proofs.NamePiles.{Numbered, type_at, found_name, is_name}
-use Rattle.rules.proofs.Grown.{Code, seq, put, stay, emits, fails, warns, void, with_ok}
+use Rattle.rules.proofs.Grown.{Code, seq, put, stay, emits, fails, warns, claims_nothing, with_ok}
 
 -- a kind that is no error
 abbrev pub Proper : Ty → Type 0
@@ -93,6 +93,10 @@ pub taken_numbers : (n : ℕ) (P : Pile) → taken (numbers n) (replicate n num 
 unfolding taken
 taken_numbers zero P = refl
 taken_numbers (suc n) P = taken_numbers n P
+
+-- as many arguments as a function may have
+allowed : (g : Signature) (n : ℕ) → g.min ≤ n → n ≤ length g.args → allows g n ≡ true
+allowed g n a b = rw (le-leb g.min n a, le-leb n (length g.args) b) refl
 
 -- the signatures
 abbrev GoodSig : Signature → Type 0
@@ -216,7 +220,7 @@ module _ (E : List Entry) (few : Few E) (t : List ℕ) (base : ℕ) where
 
   -- a variable
   var_ok : (l : ℕ) (r : Range) (n : ℕ) (x : Ty) (xs : List Rec) → Known n x xs → Typed x (xs ++ (rec 5 l r n 0 0 ∷ []))
-  unfolding step wants_of taken
+  unfolding step effect_of taken
   var_ok l r n x xs k = rw k.none (record { proper = k.proper; flow = λ P. plain_one E (rec 5 l r n 0 0) P (kind_of x ∷ P) refl (rw (← k.type) refl) })
 
   var_code : (r : Range) (i : Ideal) → Code E 0 i (var_node R t base r i).state (Unit {0}) (Typed (var_node R t base r i).ty)
@@ -226,7 +230,7 @@ module _ (E : List Entry) (few : Few E) (t : List ℕ) (base : ℕ) where
       (rec 5 (compile_sym R t base r i).state.line r (compile_sym R t base r i).number 0 0) (var_ok _ r _ _)
 
   text_step : (l : ℕ) (r : Range) (s n : ℕ) → Typed String (rec 4 l r s n 0 ∷ [])
-  unfolding step wants_of taken
+  unfolding step effect_of taken
   text_step l r s n = record { proper = tt; flow = λ P. plain_one E (rec 4 l r s n 0) P (txt ∷ P) refl refl }
 
   pub text_code : (r : Range) (i : Ideal) → Code E 0 i (text_node R t base r i) (Unit {0}) (Typed String)
@@ -247,7 +251,7 @@ module _ (E : List Entry) (few : Few E) (t : List ℕ) (base : ℕ) where
       go false = it
 
   pub number_step : (l : ℕ) (r : Range) (e m : ℕ) → Typed Real (rec 3 l r e m 0 ∷ [])
-  unfolding step wants_of taken
+  unfolding step effect_of taken
   number_step l r e m = record { proper = tt; flow = λ P. plain_one E (rec 3 l r e m 0) P (num ∷ P) refl refl }
 
   number_code : (r : Range) (e m : ℕ) (i : Ideal) → Code E 0 i (number_node R t base r e m i) (Unit {0}) (Typed Real)
@@ -259,7 +263,7 @@ module _ (E : List Entry) (few : Few E) (t : List ℕ) (base : ℕ) where
       go false = emits E i (rec 3 i.line r e m 0) (Unit {0}) (Typed Real) (λ w. number_step i.line r e m)
 
   inkey_code : (r : Range) (i : Ideal) → Code E 0 i (R.emit i 10 r 0 0 0) (Unit {0}) (Typed String)
-  unfolding step wants_of taken
+  unfolding step effect_of taken
   inkey_code r i = emits E i (rec 10 i.line r 0 0 0) (Unit {0}) (Typed String) (λ w. record { proper = tt; flow = λ P. plain_one E (rec 10 i.line r 0 0 0) P (txt ∷ P) refl refl })
 
   -- a kind that is wanted
@@ -309,11 +313,11 @@ module _ (E : List Entry) (few : Few E) (t : List ℕ) (base : ℕ) where
 
   -- a user function's call
   user_ok : (l : ℕ) (r : Range) (n : ℕ) (xs : List Rec) → Wanted Real xs → Typed Real (xs ++ (rec 12 l r n 0 0 ∷ []))
-  unfolding step wants_of taken
+  unfolding step effect_of taken
   user_ok l r n xs a = record { proper = tt; flow = λ P. flow_append (a tt P) (plain_one E (rec 12 l r n 0 0) (num ∷ P) (num ∷ P) refl refl) }
 
   user_of : {W : Type 0} (f : Opt Range) (r : Range) (n : ℕ) (i j : Ideal) → Code E 1 i j W (Wanted Real) → Code E 0 i (user_call R t base f r n j) (Present f × W) (Typed Real)
-  user_of {W} absent r n i j a = void E 0 (⊥ × W) (Typed Real) (λ w. w.0) a
+  user_of {W} absent r n i j a = claims_nothing E 0 (⊥ × W) (Typed Real) (λ w. w.0) a
   user_of {W} (given fr) r n i j a =
       with_ok E {W = W} {A = Typed Real} 0 (omega arith) (put E {A = Wanted Real} {C = Typed Real} a (omega arith) (rec 12 j.line r n 0 0) (user_ok j.line r n)) (λ w. w.1) (λ w xs c. c)
 
@@ -328,11 +332,11 @@ module _ (E : List Entry) (few : Few E) (t : List ℕ) (base : ℕ) where
   Joined x y z xs = Proper x → Proper y → Proper z × Turns E (λ P. kind_of y ∷ kind_of x ∷ P) (λ P. kind_of z ∷ P) xs
 
   num_step : (l : ℕ) (r : Range) (k : ℕ) → Turns E (λ P. num ∷ num ∷ P) (λ P. num ∷ P) (rec 14 l r k 0 0 ∷ [])
-  unfolding step wants_of taken
+  unfolding step effect_of taken
   num_step l r k P = plain_one E (rec 14 l r k 0 0) (num ∷ num ∷ P) (num ∷ P) refl refl
 
   txt_step : (l : ℕ) (r : Range) (k : ℕ) → Turns E (λ P. txt ∷ txt ∷ P) (λ P. pick (eqb k 6) txt num ∷ P) (rec 15 l r k 0 0 ∷ [])
-  unfolding step wants_of taken
+  unfolding step effect_of taken
   txt_step l r k P = plain_one E (rec 15 l r k 0 0) (txt ∷ txt ∷ P) (pick (eqb k 6) txt num ∷ P) refl refl
 
   like_num : (k l : ℕ) (r : Range) → Proper (pick (is_add k) Real Real) × Turns E (λ P. num ∷ num ∷ P) (λ P. kind_of (pick (is_add k) Real Real) ∷ P) (rec 14 l r k 0 0 ∷ [])
@@ -406,7 +410,7 @@ module _ (E : List Entry) (few : Few E) (t : List ℕ) (base : ℕ) where
       (λ xs ys u v. let c = v u.left u.right in record { proper = c.0; flow = λ P. flow_append (u.flow P) (c.1 P) })
 
   unary_ok : (l : ℕ) (r : Range) (k : ℕ) (xs : List Rec) → Wanted Real xs → Typed Real (xs ++ (rec 13 l r k 0 0 ∷ []))
-  unfolding step wants_of taken
+  unfolding step effect_of taken
   unary_ok l r k xs a = record { proper = tt; flow = λ P. flow_append (a tt P) (plain_one E (rec 13 l r k 0 0) (num ∷ P) (num ∷ P) refl refl) }
 
   unary_of : {W : Type 0} (k : ℕ) (r ar : Range) (i : Ideal) (p : Out Ideal) → Code E 0 i p.state W (Typed p.ty) → Code E 0 i (unary_node R t base k r ar p.ty p.state).state W (Typed Real)
@@ -437,14 +441,14 @@ module _ (E : List Entry) (few : Few E) (t : List ℕ) (base : ℕ) where
   }
 
   element_ok : (l : ℕ) (r : Range) (n k : ℕ) (x : Ty) (xs : List Rec) → Subscripted k n x xs → Typed x (xs ++ (rec 6 l r n k 0 ∷ []))
-  unfolding step wants_of
+  unfolding step effect_of
   element_ok l r n k x xs a = record {
     proper = a.proper;
     flow = λ P. flow_append (a.flow P) (plain_one E (rec 6 l r n k 0) (replicate k num ++ P) (kind_of x ∷ P) refl (rw (taken_numbers k P, ← a.type) refl));
   }
 
   index_of : {W : Type 0} (n : Opt Range) (r : Range) (k : ℕ) (i j : Ideal) → Code E 0 i j W (Args every_real 0 k) → Code E 0 i (index_node R t base n r k j).state (Present n × W) (Typed (index_node R t base n r k j).ty)
-  index_of {W} absent r k i j a = void E 0 (⊥ × W) (Typed Error) (λ w. w.0) a
+  index_of {W} absent r k i j a = claims_nothing E 0 (⊥ × W) (Typed Error) (λ w. w.0) a
   index_of {W} (given nr) r k i j a =
       let y = compile_sym R t base nr j in
       put E {d = 1} {W = Unit {0} × W} {A = Subscripted k y.number y.ty} {C = Typed y.ty}
@@ -454,16 +458,18 @@ module _ (E : List Entry) (few : Few E) (t : List ℕ) (base : ℕ) where
 
   -- a system function: no note, then its arguments, then its call
   abbrev Counted : ℕ → ℕ → List Rec → Type 0
-  Counted k n xs = (xs ≡ []) × (n ≤ length (signature_of k).args)
+  Counted k n xs = (xs ≡ []) × ((n ≤ length (signature_of k).args) × (allows (signature_of k) n ≡ true))
 
   arity_code : (k n : ℕ) (r : Range) (i : Ideal) → Code E 0 i (arity_notes R t base (signature_of k) n r i) (Unit {0}) (Counted k n)
   unfolding arity_notes
-  arity_code k n r i = go (ltb n (signature_of k).min) (ltb (length (signature_of k).args) n) refl
+  arity_code k n r i = go (ltb n (signature_of k).min) (ltb (length (signature_of k).args) n) refl refl
     where
-      go : (b c : Bool) → ltb (length (signature_of k).args) n ≡ c → Code E 0 i (pick b (R.note i 6 r 1) (pick c (R.note i 7 r 1) i)) (Unit {0}) (Counted k n)
-      go true c e = fails E i 6 i.line r 0 (Unit {0}) (Counted k n)
-      go false true e = fails E i 7 i.line r 0 (Unit {0}) (Counted k n)
-      go false false e = stay E i (Unit {0}) (Counted k n) (λ w. (refl, ltb-false (length (signature_of k).args) n e))
+      go : (b c : Bool) → ltb n (signature_of k).min ≡ b → ltb (length (signature_of k).args) n ≡ c → Code E 0 i (pick b (R.note i 6 r 1) (pick c (R.note i 7 r 1) i)) (Unit {0}) (Counted k n)
+      go true c f e = fails E i 6 i.line r 0 (Unit {0}) (Counted k n)
+      go false true f e = fails E i 7 i.line r 0 (Unit {0}) (Counted k n)
+      go false false f e =
+          stay E i (Unit {0}) (Counted k n)
+          (λ w. let h = ltb-false (length (signature_of k).args) n e in (refl, (h, allowed (signature_of k) n (ltb-false n (signature_of k).min f) h)))
 
   notes_code : (k n : ℕ) (fr r : Range) (i : Ideal) → Code E 0 i (func_notes R t base k n fr r i) (Unit {0}) (Counted k n)
   unfolding func_notes
@@ -474,22 +480,22 @@ module _ (E : List Entry) (few : Few E) (t : List ℕ) (base : ℕ) where
           seq E {d₁ = 0} {d₂ = 0} {W₁ = Unit {0}} {W₂ = Unit {0}} {A = λ xs. ⊥} {B = Counted k n} (fails E i 12 i.line fr 0 (Unit {0}) (λ xs. ⊥)) (arity_code k n r (R.note i 12 fr 1)) (λ w. w) (λ w. w) (λ xs ys a b. absurd a)
       go false = arity_code k n r i
 
-  func_ok : (l : ℕ) (r : Range) (k n : ℕ) (xs : List Rec) → (n ≤ length (signature_of k).args) × Turns E Same (arg_pile (wanted (signature_of k).args) 0 n) xs → Typed (signature_of k).result (xs ++ (rec 11 l r k n 0 ∷ []))
-  unfolding step wants_of taken
+  func_ok : (l : ℕ) (r : Range) (k n : ℕ) (xs : List Rec) → ((n ≤ length (signature_of k).args) × (allows (signature_of k) n ≡ true)) × Turns E Same (arg_pile (wanted (signature_of k).args) 0 n) xs → Typed (signature_of k).result (xs ++ (rec 11 l r k n 0 ∷ []))
+  unfolding step effect_of taken
   func_ok l r k n xs a = record {
     proper = (good_sig k).0;
     flow = λ P. flow_append (a.1 P) (plain_one E (rec 11 l r k n 0) (arg_pile (wanted (signature_of k).args) 0 n P) (kind_of (signature_of k).result ∷ P) refl
-        (rw (taken_arguments (signature_of k).args n [] P a.0) refl));
+        (rw (a.0.1, taken_arguments (signature_of k).args n [] P a.0.0) refl));
   }
 
   func_of : {W : Type 0} (k n : ℕ) (fr r : Range) (i j : Ideal) → Code E 0 (func_notes R t base k n fr r i) j W (Args (wanted (signature_of k).args) 0 n)
       → Code E 0 i (func_node R t base k n r j).state W (Typed (signature_of k).result)
   unfolding func_node
   func_of {W} k n fr r i j a =
-      let Q : List Rec → Type 0 = λ xs. (n ≤ length (signature_of k).args) × Turns E Same (arg_pile (wanted (signature_of k).args) 0 n) xs in
+      let Q : List Rec → Type 0 = λ xs. ((n ≤ length (signature_of k).args) × (allows (signature_of k) n ≡ true)) × Turns E Same (arg_pile (wanted (signature_of k).args) 0 n) xs in
       put E {d = 0} {W = W} {A = Q} {C = Typed (signature_of k).result}
       (seq E {d₁ = 0} {d₂ = 0} {W₁ = Unit {0}} {W₂ = W} {W = W} {A = Counted k n} {B = Args (wanted (signature_of k).args) 0 n} {C = Q} (notes_code k n fr r i) a (λ w. tt) (λ w. w)
-      (λ xs ys u v. (u.1, nothing_then Same (arg_pile (wanted (signature_of k).args) 0 n) xs ys u.0 (v (clear_wanted (signature_of k).args 0 n (good_sig k).1 (omega (arith, u.1)))))))
+      (λ xs ys u v. (u.1, nothing_then Same (arg_pile (wanted (signature_of k).args) 0 n) xs ys u.0 (v (clear_wanted (signature_of k).args 0 n (good_sig k).1 (omega (arith, u.1.0)))))))
       (omega arith) (rec 11 j.line r k n 0) (func_ok j.line r k n)
 
   mutual

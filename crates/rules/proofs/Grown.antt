@@ -1,8 +1,9 @@
 -- What compiling a part of a tree appends to the records, the notes and the book, and what is known of it if nothing is
 -- missing and no error was noted.
-use Rattle.std.proofs.Common.{◌≡◌, ℕ, suc, ◌+◌, ◌*◌, ◌≤◌, List, [], ◌∷◌, ◌++◌, length, sym, refl, ap, ◌∙◌, append_assoc, append-nil, arith, length-append}
+use Rattle.std.proofs.Common.{◌≡◌, ℕ, suc, ◌+◌, ◌*◌, ◌≤◌, Bool, true, false, List, [], ◌∷◌, ◌++◌, length, sym, refl, ap, ◌∙◌, append_assoc, append-nil, arith, length-append}
 use Rattle.recorder.specs.declared.word.Range.{Range}
-use Rattle.recorder.specs.Ideal.{Rec, Note, note_of, Entry, name_kind, how_many, Ideal, ideal, change}
+use Rattle.recorder.specs.Word.{pick}
+use Rattle.recorder.specs.Ideal.{Rec, rec, Note, note_of, Entry, name_kind, how_many, Ideal, ideal, change}
 use Rattle.recorder.proofs.Words.{change_length}
 use Rattle.rules.specs.Demand.{NoError}
 use Rattle.rules.proofs.PileLaws.{all_left, all_right}
@@ -92,6 +93,15 @@ module _ (E : List Entry) where
     ok = λ w e p. h w;
   }
 
+  -- one record more: of one call or of another, with the same range and arguments
+  abbrev one_more : Ideal → ℕ → Range → ℕ → ℕ → ℕ → Ideal
+  one_more j k r a b c = ideal (j.records ++ (rec k j.line r a b c ∷ [])) j.notes j.entries j.line j.first_datum
+
+  pub one_of_two : {d : ℕ} {i : Ideal} {W : Type 0} {A : List Rec → Type 0} (x : Bool) (r : Range) (j : Ideal) (k l a b c : ℕ)
+      → Code E d i (one_more j (pick x k l) r a b c) W A → Code E d i (pick x (one_more j k r a b c) (one_more j l r a b c)) W A
+  one_of_two true r j k l a b c g = g
+  one_of_two false r j k l a b c g = g
+
   pub emits : (i : Ideal) (r : Rec) (W : Type 0) (Ok : List Rec → Type 0) → (W → Ok (r ∷ []))
       → Code E 0 i (ideal (i.records ++ (r ∷ [])) i.notes i.entries i.line i.first_datum) W Ok
   unfolding how_many
@@ -139,8 +149,8 @@ module _ (E : List Entry) where
   }
 
   -- what is not whole claims nothing
-  pub void : {d : ℕ} {i f : Ideal} {W : Type 0} {A : List Rec → Type 0} (d' : ℕ) (U : Type 0) (C : List Rec → Type 0) → (U → ⊥) → Code E d i f W A → Code E d' i f U C
-  void d' U C n a = record {
+  pub claims_nothing : {d : ℕ} {i f : Ideal} {W : Type 0} {A : List Rec → Type 0} (d' : ℕ) (U : Type 0) (C : List Rec → Type 0) → (U → ⊥) → Code E d i f W A → Code E d' i f U C
+  claims_nothing d' U C n a = record {
     code = a.code;
     records = a.records;
     fresh = a.fresh;
@@ -167,9 +177,9 @@ module _ (E : List Entry) where
   }
 
   -- behind an error nothing is claimed
-  pub dooms : {d : ℕ} {i j : Ideal} {W : Type 0} {A : List Rec → Type 0} (k l : ℕ) (r : Range) (d' : ℕ) (U : Type 0) (C : List Rec → Type 0) → Code E d i j W A
+  pub behind_error : {d : ℕ} {i j : Ideal} {W : Type 0} {A : List Rec → Type 0} (k l : ℕ) (r : Range) (d' : ℕ) (U : Type 0) (C : List Rec → Type 0) → Code E d i j W A
       → Code E d' i (ideal j.records (j.notes ++ (note_of k l r 1 ∷ [])) j.entries j.line j.first_datum) U C
-  dooms {i = i} {j = j} k l r d' U C a = record {
+  behind_error {i = i} {j = j} k l r d' U C a = record {
     code = a.code;
     records = a.records;
     fresh = a.fresh ++ (note_of k l r 1 ∷ []);

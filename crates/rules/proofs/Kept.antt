@@ -11,7 +11,7 @@ use Rattle.rules.specs.Types.{matches_type, exact_matches}
 use Rattle.rules.specs.Name.{read_name}
 use Rattle.rules.specs.Tables.{draw_arity, drawn, operand, signature_of, tab, spc, wanted, every_real}
 use Rattle.rules.specs.Expr.{Out, text_size, quoted_length, is_text, compile_sym, check_type, check_real, real_sym, var_node, text_node, number_node, arity_notes, func_notes, func_node, opt_real_sym, user_call, like_node, arith_node, binary_node, unary_node, index_node, compile_expr, compile_args, compile_typed, index_place, compile_lvalue}
-use Rattle.rules.specs.Stmt.{byte_of, is_ident, datum_length, is_value, is_file, is_tab_spc, surplus_notes, draw_node, datum_node, compile_data, def_node, compile_def, dim_node, dim_one, compile_dim, place_typed, compile_fields, compile_field, compile_step, for_node, compile_for, pending_jump, compile_go, compile_restore, input_arg_by, fn_place, fn_input, input_var, input_vars, input_source, compile_input, assign_call, assign_node, compile_let, bad_byte, bad_bytes, all_bytes, load_byte, load_bytes, load_node, compile_load, locate_part, compile_locate, next_one, next_each, compile_next, on_jumps, compile_on, open_node, compile_open, tab_call, print_value, behind_value, print_one, print_each, empty_line, compile_print, compile_read, compile_swap, compile_while, compile_stmt}
+use Rattle.rules.specs.Stmt.{byte_of, is_ident, datum_length, is_value, is_file, is_tab_spc, surplus_notes, draw_node, datum_node, compile_data, def_node, compile_def, dim_node, dim_one, compile_dim, place_typed, compile_fields, compile_field, compile_step, for_node, compile_for, pending_jump, compile_go, compile_restore, input_arg_by, fn_place, fn_input, input_var, input_vars, input_source, compile_input, assign_call, assign_node, compile_let, bad_byte, bad_bytes, all_bytes, load_byte, load_bytes, load_node, compile_load, locate_row, locate_column, compile_locate, next_one, next_each, compile_next, on_jumps, compile_on, open_node, compile_open, tab_call, print_value, behind_value, print_one, print_each, empty_line, compile_print, compile_read, compile_swap, compile_while, compile_stmt}
 use Rattle.rules.specs.Writes.{is_write_call}
 
 pub record Keeps {S : Type 0} (R : Recorder S) (P : S → Type 0) : Type 0 where
@@ -21,11 +21,6 @@ pub record Keeps {S : Type 0} (R : Recorder S) (P : S → Type 0) : Type 0 where
   pub datum : (s : S) (x n q : ℕ) → P s → P (R.datum s x n q)
   pub byte : (s : S) (x n v : ℕ) → P s → P (R.byte s x n v)
   pub patch_end : (s : S) (k v : ℕ) → P s → P (R.patch_end s k v)
-
--- one of two calls, neither 44 nor 45
-pub other_pick : (b : Bool) (k l : ℕ) → is_write_call k ≡ false → is_write_call l ≡ false → is_write_call (pick b k l) ≡ false
-other_pick true k l e f = e
-other_pick false k l e f = f
 
 module _ {S : Type 0} {R : Recorder S} {P : S → Type 0} (κ : Keeps R P) (t : List ℕ) (base : ℕ) where
   emitted : {s : S} {k : ℕ} {r : Range} {a b c : ℕ} → is_write_call k ≡ false → P s → P (R.emit s k r a b c)
@@ -252,7 +247,7 @@ module _ {S : Type 0} {R : Recorder S} {P : S → Type 0} (κ : Keeps R P) (t : 
 
   -- GOTO, GOSUB, RESTORE
   keep_waiting : {s : S} (sub : ℕ) (r : Range) (l : ℕ) (lr : Range) → P s → P (pending_jump R t base sub r l lr s)
-  keep_waiting sub r l lr p = emitted (other_pick (eqb sub 1) 21 20 refl refl) p
+  keep_waiting sub r l lr p = pick_kept (eqb sub 1) (emitted refl p) (emitted refl p)
 
   pub keep_go : {s : S} (r : Range) (sub : ℕ) (x : Opt Target) → P s → P (compile_go R t base r sub x s)
   unfolding compile_go
@@ -350,13 +345,17 @@ module _ {S : Type 0} {R : Recorder S} {P : S → Type 0} (κ : Keeps R P) (t : 
   keep_load r (more e es) p = keep_load_node r es (keep_typed Real e p)
 
   -- LOCATE
-  keep_locate_part : {s : S} (k : ℕ) (e : Opt Expr) → is_write_call k ≡ false → P s → P (locate_part R t base k e s)
-  keep_locate_part k absent h p = p
-  keep_locate_part k (given e) h p = emitted h (keep_typed Real e p)
+  keep_locate_row : {s : S} (e : Opt Expr) → P s → P (locate_row R t base e s)
+  keep_locate_row absent p = p
+  keep_locate_row (given e) p = emitted refl (keep_typed Real e p)
+
+  keep_locate_column : {s : S} (e : Opt Expr) → P s → P (locate_column R t base e s)
+  keep_locate_column absent p = p
+  keep_locate_column (given e) p = emitted refl (keep_typed Real e p)
 
   pub keep_locate : {s : S} (a b : Opt Expr) → P s → P (compile_locate R t base a b s)
   unfolding compile_locate
-  keep_locate a b p = keep_locate_part 37 b refl (keep_locate_part 36 a refl p)
+  keep_locate a b p = keep_locate_column b (keep_locate_row a p)
 
   -- NEXT
   keep_next_one : {s : S} (n : ℕ) (r : Range) (v : Opt Range) → P s → P (next_one R t base n r v s)
@@ -397,7 +396,8 @@ module _ {S : Type 0} {R : Recorder S} {P : S → Type 0} (κ : Keeps R P) (t : 
   -- PRINT
   keep_tab : {s : S} (e : Expr) → P s → P (tab_call R t base e s)
   keep_tab (sys_func_call r fr k es) p =
-      emitted (other_pick (eqb k spc) 40 41 refl refl) (keep_args (wanted (signature_of k).args) zero es (keep_surplus 1 es p))
+      let q = keep_args (wanted (signature_of k).args) zero es (keep_surplus 1 es p) in
+      pick_kept (eqb k spc) (emitted refl q) (emitted refl q)
   keep_tab (ident r) p = p
   keep_tab (string_lit r) p = p
   keep_tab (number_lit r e m) p = p
@@ -409,7 +409,9 @@ module _ {S : Type 0} {R : Recorder S} {P : S → Type 0} (κ : Keeps R P) (t : 
   keep_tab (error r) p = p
 
   keep_print_value : {s : S} (e : Expr) → P s → P (print_value R t base e s)
-  keep_print_value {s} e p = emitted (other_pick (matches_type (compile_expr R t base e s).ty Real) 38 39 refl refl) (keep_expr e p)
+  keep_print_value {s} e p =
+      let q = keep_expr e p in
+      pick_kept (matches_type (compile_expr R t base e s).ty Real) (emitted refl q) (emitted refl q)
 
   keep_behind : {s : S} (b : Bool) (r er : Range) (xs : List PrintElement) → P s → P (behind_value R t base b r er xs s)
   keep_behind b r er [] p = emitted refl p

@@ -3,6 +3,7 @@ use Rattle.std.proofs.Common.{◌≡◌, ℕ, zero, suc, ◌+◌, ◌<◌, ◌�
 use Rattle.recorder.specs.Word.{pick, both}
 use Rattle.recorder.specs.declared.word.Range.{Range}
 use Rattle.recorder.specs.Recorder.{Recorder}
+use Rattle.recorder.specs.Calls.{emit_op}
 use Rattle.recorder.specs.Ideal.{Rec, rec, Entry, entry, datum_kind, how_many, Ideal, ideal}
 use Rattle.recorder.specs.Closing.{rules_r}
 use Rattle.sheet.specs.Tree.{Opt, absent, given, Expr, ident, string_lit, number_lit, sys_func_call, user_func_call, binary, unary, index, inkey, error, Exprs, none, more, expr_range, count, Datum, FieldSpec, PrintElement, value, comma, semicolon}
@@ -13,11 +14,11 @@ use Rattle.rules.specs.Tables.{every_real, operand, draw_arity, drawn}
 use Rattle.rules.specs.Expr.{compile_sym, compile_args, compile_typed, compile_lvalue, index_place}
 use Rattle.rules.specs.Stmt
 use Rattle.rules.specs.Missing.{All, Present, WholeExpr, WholeExprs}
-use Rattle.rules.specs.Piles.{num, txt, plc, Pile, taken, kind_of, numbers, operands, field_wants, is_set, wants_of, step}
+use Rattle.rules.specs.Piles.{num, txt, plc, Pile, taken, kind_of, numbers, operands, field_wants, is_set, effect_of, step}
 use Rattle.rules.proofs.PileLaws.{Flow, Plain, plain_one, plain_call, flow_append, Turns}
-use Rattle.rules.proofs.Grown.{Code, seq, put, stay, emits, fails, void, with_ok}
+use Rattle.rules.proofs.Grown.{Code, seq, put, stay, emits, fails, claims_nothing, with_ok}
 use Rattle.rules.proofs.ExprPiles.{Proper, Clear, arg_pile, own_kind, rep_num, taken_numbers, Few, Known, Subscripted, subscripted, sym_code, check_code, args_code, typed_code}
-use Rattle.rules.proofs.Blocks.{solo_call, solo}
+use Rattle.rules.proofs.Blocks.{untargeted_call, untargeted}
 
 -- what the form of the sheet says of the places to store
 abbrev pub IsPlace : Expr → Type 0
@@ -109,8 +110,8 @@ module _ (E : List Entry) (few : Few E) (t : List ℕ) (base : ℕ) where
   abbrev Nothing : List Rec → Type 0
   Nothing xs = xs ≡ []
 
-  abbrev Kno : ℕ → Ty → List Rec → Type 0
-  Kno n x xs = Known E few t base n x xs
+  abbrev KnownHere : ℕ → Ty → List Rec → Type 0
+  KnownHere n x xs = Known E few t base n x xs
 
   -- one after the other
   pub two : {d₁ d₂ : ℕ} {i j k : Ideal} {W₁ W₂ : Type 0} (f g h : Pile → Pile) → Code E d₁ i j W₁ (Turns E f g) → Code E d₂ j k W₂ (Turns E g h) → Code E (d₁ + d₂) i k (W₁ × W₂) (Turns E f h)
@@ -131,9 +132,9 @@ module _ (E : List Entry) (few : Few E) (t : List ℕ) (base : ℕ) where
   turn {W = W} f g h a l r e s = put E {W = W} {A = Turns E f g} {C = Turns E f h} a l r (λ xs u P. flow_append (u P) (plain_one E r (g P) (h P) e (s P)))
 
   -- a statement's last record
-  pub closes : {d : ℕ} {i j : Ideal} {W : Type 0} (g : Pile → Pile) → Code E d i j W (Turns E (λ P. P) g) → d ≤ 2 → (r : Rec) → solo_call r.call ≡ true → step E r (g []) ≡ given []
+  pub closes : {d : ℕ} {i j : Ideal} {W : Type 0} (g : Pile → Pile) → Code E d i j W (Turns E (λ P. P) g) → d ≤ 2 → (r : Rec) → untargeted_call r.call ≡ true → step E r (g []) ≡ given []
       → Code E 0 i (ideal (j.records ++ (r ∷ [])) j.notes j.entries j.line j.first_datum) W Flat
-  closes {W = W} g a l r e s = put E {W = W} {A = Turns E (λ P. P) g} {C = Flat} a l r (λ xs u. flow_append (u []) (solo E r (g []) e s))
+  closes {W = W} g a l r e s = put E {W = W} {A = Turns E (λ P. P) g} {C = Flat} a l r (λ xs u. flow_append (u []) (untargeted E r (g []) e s))
 
   pub pushed : (want : Ty) → Proper want → (e : Expr) (i : Ideal) → Code E 0 i (compile_typed R t base want e i) (WholeExpr e) (Turns E (λ P. P) (λ P. kind_of want ∷ P))
   pushed want p e i = with_ok E {A = λ xs. Proper want → Turns E (λ P. P) (λ P. kind_of want ∷ P) xs} 0 (omega arith) (typed_code E few t base want e i) (λ w. w) (λ w xs a. a p)
@@ -143,12 +144,12 @@ module _ (E : List Entry) (few : Few E) (t : List ℕ) (base : ℕ) where
   pushed_on f want p e i = with_ok E {A = Turns E (λ P. P) (λ P. kind_of want ∷ P)} 0 (omega arith) (pushed want p e i) (λ w. w) (λ w xs a P. a (f P))
 
   op_step : (l : ℕ) (r : Range) (k n : ℕ) (P Q : Pile) → PlainOp k → taken (operands k n) P ≡ given Q → step E (rec 2 l r k n 0) P ≡ given Q
-  unfolding step wants_of
+  unfolding step effect_of
   op_step l r k n P Q o e = rw (o.no_swap, o.no_set, e) refl
 
-  pub op0 : (k : ℕ) (r : Range) (i : Ideal) → Code E 0 i (Stmt.emit_op R t base k 0 r i) (PlainOp k) Flat
+  pub op0 : (k : ℕ) (r : Range) (i : Ideal) → Code E 0 i (emit_op (R.emit i) k 0 r) (PlainOp k) Flat
   unfolding operands taken
-  op0 k r i = emits E i (rec 2 i.line r k 0 0) (PlainOp k) Flat (λ w. solo E (rec 2 i.line r k 0 0) [] refl (op_step i.line r k 0 [] [] w refl))
+  op0 k r i = emits E i (rec 2 i.line r k 0 0) (PlainOp k) Flat (λ w. untargeted E (rec 2 i.line r k 0 0) [] refl (op_step i.line r k 0 [] [] w refl))
 
   op1_step : (l : ℕ) (r : Range) (k : ℕ) → PlainOp k → step E (rec 2 l r k 1 0) (kind_of (operand k 0) ∷ []) ≡ given []
   unfolding operands taken
@@ -163,17 +164,17 @@ module _ (E : List Entry) (few : Few E) (t : List ℕ) (base : ℕ) where
   op3_step l r k o = op_step l r k 3 (kind_of (operand k 2) ∷ kind_of (operand k 1) ∷ kind_of (operand k 0) ∷ []) [] o (rw (own_kind (operand k 2), own_kind (operand k 1), own_kind (operand k 0)) refl)
 
   -- a last record that fits if something holds
-  pub closes_if : {d : ℕ} {i j : Ideal} {W : Type 0} (U : Type 0) (g : Pile → Pile) → Code E d i j W (Turns E (λ P. P) g) → d ≤ 2 → (r : Rec) → solo_call r.call ≡ true → (U → step E r (g []) ≡ given [])
+  pub closes_if : {d : ℕ} {i j : Ideal} {W : Type 0} (U : Type 0) (g : Pile → Pile) → Code E d i j W (Turns E (λ P. P) g) → d ≤ 2 → (r : Rec) → untargeted_call r.call ≡ true → (U → step E r (g []) ≡ given [])
       → Code E 0 i (ideal (j.records ++ (r ∷ [])) j.notes j.entries j.line j.first_datum) (W × U) Flat
   closes_if {d} {W = W} U g a l r e s =
       put E {d = d} {W = W × U} {A = λ xs. Turns E (λ P. P) g xs × U} {C = Flat} (with_ok E {W = W} {A = Turns E (λ P. P) g} d (omega arith) a (λ w. w.0) (λ w xs u. (u, w.1))) l r
-      (λ xs u. flow_append (u.0 []) (solo E r (g []) e (s u.1)))
+      (λ xs u. flow_append (u.0 []) (untargeted E r (g []) e (s u.1)))
 
-  pub op1 : (k : ℕ) (r : Range) (a : Expr) (i : Ideal) → Code E 0 i (Stmt.emit_op R t base k 1 r (compile_typed R t base (operand k 0) a i)) (WholeExpr a × PlainOp k) Flat
+  pub op1 : (k : ℕ) (r : Range) (a : Expr) (i : Ideal) → Code E 0 i (emit_op (R.emit (compile_typed R t base (operand k 0) a i)) k 1 r) (WholeExpr a × PlainOp k) Flat
   op1 k r a i = closes_if (PlainOp k) (λ P. kind_of (operand k 0) ∷ P) (pushed (operand k 0) (operand_proper k 0) a i) (omega arith) (rec 2 _ r k 1 0) refl (op1_step _ r k)
 
   pub op2 : (k : ℕ) (r : Range) (a b : Expr) (i : Ideal)
-      → Code E 0 i (Stmt.emit_op R t base k 2 r (compile_typed R t base (operand k 1) b (compile_typed R t base (operand k 0) a i))) ((WholeExpr a × WholeExpr b) × PlainOp k) Flat
+      → Code E 0 i (emit_op (R.emit (compile_typed R t base (operand k 1) b (compile_typed R t base (operand k 0) a i))) k 2 r) ((WholeExpr a × WholeExpr b) × PlainOp k) Flat
   op2 k r a b i =
       closes_if (PlainOp k) (λ P. kind_of (operand k 1) ∷ kind_of (operand k 0) ∷ P)
       (two (λ P. P) (λ P. kind_of (operand k 0) ∷ P) (λ P. kind_of (operand k 1) ∷ kind_of (operand k 0) ∷ P) (pushed (operand k 0) (operand_proper k 0) a i)
@@ -181,7 +182,7 @@ module _ (E : List Entry) (few : Few E) (t : List ℕ) (base : ℕ) where
       (omega arith) (rec 2 _ r k 2 0) refl (op2_step _ r k)
 
   pub op3 : (k : ℕ) (r : Range) (a b c : Expr) (i : Ideal)
-      → Code E 0 i (Stmt.emit_op R t base k 3 r (compile_typed R t base (operand k 2) c (compile_typed R t base (operand k 1) b (compile_typed R t base (operand k 0) a i)))) (((WholeExpr a × WholeExpr b) × WholeExpr c) × PlainOp k) Flat
+      → Code E 0 i (emit_op (R.emit (compile_typed R t base (operand k 2) c (compile_typed R t base (operand k 1) b (compile_typed R t base (operand k 0) a i)))) k 3 r) (((WholeExpr a × WholeExpr b) × WholeExpr c) × PlainOp k) Flat
   op3 k r a b c i =
       closes_if (PlainOp k) (λ P. kind_of (operand k 2) ∷ kind_of (operand k 1) ∷ kind_of (operand k 0) ∷ P)
       (two (λ P. P) (λ P. kind_of (operand k 1) ∷ kind_of (operand k 0) ∷ P) (λ P. kind_of (operand k 2) ∷ kind_of (operand k 1) ∷ kind_of (operand k 0) ∷ P)
@@ -221,7 +222,7 @@ module _ (E : List Entry) (few : Few E) (t : List ℕ) (base : ℕ) where
   draw_ok : (l : ℕ) (r : Range) (k n : ℕ) (xs : List Rec) → DrawOp k → n ≤ (draw_arity k).max → (Clear (drawn k) 0 n → Turns E (λ P. P) (arg_pile (drawn k) 0 n) xs) → Flat (xs ++ (rec 2 l r k n 0 ∷ []))
   draw_ok l r k n xs o h a =
       flow_append (a (drawn_clear k 0 n (omega arith)) [])
-      (solo E (rec 2 l r k n 0) (arg_pile (drawn k) 0 n []) refl (op_step l r k n (arg_pile (drawn k) 0 n []) [] o.plain (rw (drawn_pile k 0 n [] (omega arith), draw_wants k n o) (taken_numbers n []))))
+      (untargeted E (rec 2 l r k n 0) (arg_pile (drawn k) 0 n []) refl (op_step l r k n (arg_pile (drawn k) 0 n []) [] o.plain (rw (drawn_pile k 0 n [] (omega arith), draw_wants k n o) (taken_numbers n []))))
 
   pub draw_code : (k : ℕ) (r : Range) (es : Exprs) (i : Ideal) → Code E 0 i (Stmt.draw_node R t base k r es (compile_args R t base (drawn k) 0 es i)) (WholeExprs es × DrawOp k) Flat
   unfolding Stmt.draw_node
@@ -240,7 +241,7 @@ module _ (E : List Entry) (few : Few E) (t : List ℕ) (base : ℕ) where
       args = args_code E few t base (drawn k) 0 es i
 
       go : (b c : Bool) → ltb (draw_arity k).max (count es) ≡ c
-          → Code E 0 i (pick b (R.note j 6 r 1) (pick c (Stmt.surplus_notes R t base (draw_arity k).max es j) (Stmt.emit_op R t base k (count es) r j))) W Flat
+          → Code E 0 i (pick b (R.note j 6 r 1) (pick c (Stmt.surplus_notes R t base (draw_arity k).max es j) (emit_op (R.emit j) k (count es) r))) W Flat
       go true c e = seq E {d₁ = 0} {d₂ = 0} {W₂ = Unit {0}} {W = W} {A = A} {B = λ xs. ⊥} {C = Flat} args (fails E j 6 j.line r 0 (Unit {0}) (λ xs. ⊥)) (λ w. w.0) (λ w. tt) (λ xs ys a b. absurd b)
       go false true e =
           seq E {d₁ = 0} {d₂ = 0} {W₂ = Unit {0}} {W = W} {A = A} {B = λ xs. (xs ≡ []) × (count es ≤ (draw_arity k).max)} {C = Flat} args (surplus_code (draw_arity k).max es j) (λ w. w.0) (λ w. tt)
@@ -305,15 +306,15 @@ module _ (E : List Entry) (few : Few E) (t : List ℕ) (base : ℕ) where
       → Code E 1 i (compile_sym R t base nr j).state W (Sub k (compile_sym R t base nr j).number (compile_sym R t base nr j).ty)
   sub_code {W} nr k i j a =
       let y = compile_sym R t base nr j in
-      seq E {d₁ = 0} {d₂ = 1} {W₁ = W} {W₂ = Unit {0}} {W = W} {A = λ xs. Clear every_real 0 k → Turns E (λ P. P) (arg_pile every_real 0 k) xs} {B = Kno y.number y.ty} {C = Sub k y.number y.ty}
+      seq E {d₁ = 0} {d₂ = 1} {W₁ = W} {W₂ = Unit {0}} {W = W} {A = λ xs. Clear every_real 0 k → Turns E (λ P. P) (arg_pile every_real 0 k) xs} {B = KnownHere y.number y.ty} {C = Sub k y.number y.ty}
       a (sym_code E few t base nr j) (λ w. w) (λ w. tt) (λ xs ys u v. subscripted E few t base k y.number y.ty xs ys u v)
 
-  var_place_lem : (l : ℕ) (r : Range) (n : ℕ) (x : Ty) (xs : List Rec) → Kno n x xs → Placed x (xs ++ (rec 7 l r n 0 0 ∷ []))
-  unfolding step wants_of taken
+  var_place_lem : (l : ℕ) (r : Range) (n : ℕ) (x : Ty) (xs : List Rec) → KnownHere n x xs → Placed x (xs ++ (rec 7 l r n 0 0 ∷ []))
+  unfolding step effect_of taken
   var_place_lem l r n x xs k = rw k.none (record { proper = k.proper; flow = λ P. plain_one E (rec 7 l r n 0 0) P (plc x ∷ P) refl (rw (← k.type) refl) })
 
   sub_place : (l : ℕ) (r : Range) (n k : ℕ) (x : Ty) (xs : List Rec) → Sub k n x xs → Placed x (xs ++ (rec 8 l r n k 0 ∷ []))
-  unfolding step wants_of
+  unfolding step effect_of
   sub_place l r n k x xs a = record {
     proper = a.proper;
     flow = λ P. flow_append (a.flow P) (plain_one E (rec 8 l r n k 0) (replicate k num ++ P) (plc x ∷ P) refl (rw (taken_numbers k P, ← a.type) refl));
@@ -321,7 +322,7 @@ module _ (E : List Entry) (few : Few E) (t : List ℕ) (base : ℕ) where
 
   index_place_lem : {W : Type 0} (n : Opt Range) (k : ℕ) (i j : Ideal) → Code E 0 i j W (λ xs. Clear every_real 0 k → Turns E (λ P. P) (arg_pile every_real 0 k) xs)
       → Code E 0 i (index_place R t base n k j).state (Present n × W) (Placed (index_place R t base n k j).ty)
-  index_place_lem {W} absent k i j a = void E 0 (⊥ × W) (Placed Error) (λ w. w.0) a
+  index_place_lem {W} absent k i j a = claims_nothing E 0 (⊥ × W) (Placed Error) (λ w. w.0) a
   index_place_lem {W} (given nr) k i j a =
       let y = compile_sym R t base nr j in
       with_ok E {W = W} {A = Placed y.ty} 0 (omega arith)
@@ -333,7 +334,7 @@ module _ (E : List Entry) (few : Few E) (t : List ℕ) (base : ℕ) where
   place_code (ident r) i =
       let y = compile_sym R t base r i in
       with_ok E {W = Unit {0}} {A = Placed y.ty} 0 (omega arith)
-      (put E {d = 1} {A = Kno y.number y.ty} {C = Placed y.ty} (sym_code E few t base r i) (omega arith) (rec 7 y.state.line r y.number 0 0) (λ xs u. var_place_lem y.state.line r y.number y.ty xs u))
+      (put E {d = 1} {A = KnownHere y.number y.ty} {C = Placed y.ty} (sym_code E few t base r i) (omega arith) (rec 7 y.state.line r y.number 0 0) (λ xs u. var_place_lem y.state.line r y.number y.ty xs u))
       (λ w. tt) (λ w xs u. u)
   place_code (index r n es) i =
       with_ok E {W = Present n × WholeExprs es} {A = Placed (index_place R t base n (count es) (compile_args R t base every_real 0 es i)).ty} 0 (omega arith)
@@ -349,12 +350,12 @@ module _ (E : List Entry) (few : Few E) (t : List ℕ) (base : ℕ) where
 
   -- DIM
   dim_step : (l : ℕ) (r : Range) (n k : ℕ) (P : Pile) → step E (rec 28 l r n k 0) (replicate k num ++ P) ≡ given P
-  unfolding step wants_of
+  unfolding step effect_of
   dim_step l r n k P = rw (taken_numbers k P) refl
 
   dim_node_lem : {W : Type 0} (n : Opt Range) (k : ℕ) (i j : Ideal) → Code E 0 i j W (λ xs. Clear every_real 0 k → Turns E (λ P. P) (arg_pile every_real 0 k) xs)
       → Code E 0 i (Stmt.dim_node R t base n k j) (Present n × W) Flat
-  dim_node_lem {W} absent k i j a = void E 0 (⊥ × W) Flat (λ w. w.0) a
+  dim_node_lem {W} absent k i j a = claims_nothing E 0 (⊥ × W) Flat (λ w. w.0) a
   dim_node_lem {W} (given nr) k i j a =
       let y = compile_sym R t base nr j in
       with_ok E {W = W} {A = Flat} 0 (omega arith)
@@ -390,10 +391,10 @@ module _ (E : List Entry) (few : Few E) (t : List ℕ) (base : ℕ) where
 
   -- LSET and RSET
   set_step : (l : ℕ) (r : Range) (k : ℕ) → SetOp k → step E (rec 2 l r k 2 0) (txt ∷ plc String ∷ []) ≡ given []
-  unfolding step wants_of taken
+  unfolding step effect_of taken
   set_step l r k o = rw (o.no_swap, o.is_set) refl
 
-  pub set_code : (k : ℕ) (r : Range) (a b : Expr) (i : Ideal) → Code E 0 i (Stmt.emit_op R t base k 2 r (compile_typed R t base String b (Stmt.place_typed R t base String a i))) (((WholeExpr a × IsPlace a) × WholeExpr b) × SetOp k) Flat
+  pub set_code : (k : ℕ) (r : Range) (a b : Expr) (i : Ideal) → Code E 0 i (emit_op (R.emit (compile_typed R t base String b (Stmt.place_typed R t base String a i))) k 2 r) (((WholeExpr a × IsPlace a) × WholeExpr b) × SetOp k) Flat
   set_code k r a b i =
       closes_if (SetOp k) (λ P. txt ∷ plc String ∷ P)
       (two (λ P. P) (λ P. plc String ∷ P) (λ P. txt ∷ plc String ∷ P) (text_place_lem a i) (pushed_on (λ P. plc String ∷ P) String tt b (Stmt.place_typed R t base String a i)))
@@ -429,7 +430,7 @@ module _ (E : List Entry) (few : Few E) (t : List ℕ) (base : ℕ) where
       one (fields_code fs k) (λ w. w.0) (λ w. w.1) (λ xs ys u v P. flow_append (u P) (rw (field_more (length fs) P) at (v (plc String ∷ num ∷ P))))
 
   field_step : (l : ℕ) (r : Range) (n : ℕ) (P : Pile) → step E (rec 29 l r n 0 0) (num ∷ field_pile n P) ≡ given P
-  unfolding step wants_of taken
+  unfolding step effect_of taken
   field_step l r n P = rw (taken_fields n P) refl
 
   pub field_code : (r : Range) (e : Expr) (fs : List FieldSpec) (i : Ideal) → Code E 0 i (Stmt.compile_field R t base r e fs i) (All WholeField fs × WholeExpr e) Flat

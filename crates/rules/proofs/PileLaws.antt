@@ -22,8 +22,8 @@ pile_in es (r ∷ rs) P zero = given P
 pile_in es (r ∷ rs) P (suc k) = and_then (step es r P) (λ Q. pile_in es rs Q k)
 
 -- the calls behind which the pile is empty: 2 and 19 to 26
-abbrev pub quiet_call : ℕ → Bool
-quiet_call k = either (eqb k 2) (both (leb 19 k) (leb k 26))
+abbrev pub empties_call : ℕ → Bool
+empties_call k = either (eqb k 2) (both (leb 19 k) (leb k 26))
 
 -- the targets that are known when a statement is compiled
 abbrev pub fixed_targets : Rec → List ℕ
@@ -44,7 +44,7 @@ Jumps (suc n) (r ∷ rs) = (is_jump_call r.call ≡ true) × Jumps n rs
 
 -- what is asked of a record besides its step to Q: X says which targets are good, Y which ends of functions, and rs stand behind it
 pub record Side (X Y : ℕ → Type 0) (r : Rec) (Q : Pile) (rs : List Rec) : Type 0 where
-  pub quiet : quiet_call r.call ≡ true → Q ≡ []
+  pub empty_behind : empties_call r.call ≡ true → Q ≡ []
   pub fixed : All X (fixed_targets r)
   pub body : r.call ≡ 26 → Y r.c
   pub on : r.call ≡ 22 → Jumps r.a rs
@@ -75,10 +75,10 @@ jumps_append (suc n) [] ys j = absurd j
 jumps_append (suc n) (x ∷ xs) ys j = (j.0, jumps_append n xs ys j.1)
 
 side_append : (X Y : ℕ → Type 0) (r : Rec) (Q : Pile) (xs ys : List Rec) → Side X Y r Q xs → Side X Y r Q (xs ++ ys)
-side_append X Y r Q xs ys s = record { quiet = s.quiet; fixed = s.fixed; body = s.body; on = λ e. jumps_append r.a xs ys (s.on e) }
+side_append X Y r Q xs ys s = record { empty_behind = s.empty_behind; fixed = s.fixed; body = s.body; on = λ e. jumps_append r.a xs ys (s.on e) }
 
 side_map : (X Y X' Y' : ℕ → Type 0) (r : Rec) (Q : Pile) (rs : List Rec) → ((v : ℕ) → X v → X' v) → ((v : ℕ) → Y v → Y' v) → Side X Y r Q rs → Side X' Y' r Q rs
-side_map X Y X' Y' r Q rs f g s = record { quiet = s.quiet; fixed = all_map X X' (fixed_targets r) f s.fixed; body = λ e. g r.c (s.body e); on = s.on }
+side_map X Y X' Y' r Q rs f g s = record { empty_behind = s.empty_behind; fixed = all_map X X' (fixed_targets r) f s.fixed; body = λ e. g r.c (s.body e); on = s.on }
 
 pub flow_append : {es : List Entry} {X Y : ℕ → Type 0} {xs ys : List Rec} {P Q U : Pile} → Flow es X Y xs P Q → Flow es X Y ys Q U → Flow es X Y (xs ++ ys) P U
 flow_append done b = b
@@ -95,42 +95,42 @@ flow_run {es} (go {rs = rs} s w a) = rw s (flow_run a)
 
 -- a record of a call that asks nothing besides
 abbrev pub plain_call : ℕ → Bool
-plain_call k = pick (quiet_call k) false true
+plain_call k = pick (empties_call k) false true
 
 off : {A : Type 0} (b : Bool) → pick b false true ≡ true → b ≡ true → A
 off true e f = absurd (let z : ◌≡◌ {A = ℕ} 0 1 = cc in omega arith)
 off false e f = absurd (let z : ◌≡◌ {A = ℕ} 0 1 = cc in omega arith)
 
 -- a literal call that is no target's has no targets
-call_is : (k n : ℕ) → plain_call k ≡ true → quiet_call n ≡ true → eqb k n ≡ false
+call_is : (k n : ℕ) → plain_call k ≡ true → empties_call n ≡ true → eqb k n ≡ false
 call_is k n e q = go (eqb k n) refl
   where
     go : (b : Bool) → eqb k n ≡ b → eqb k n ≡ false
     go false f = f
-    go true f = let z : k ≡ n = eqb-true k n f in off (quiet_call k) e (rw z q)
+    go true f = let z : k ≡ n = eqb-true k n f in off (empties_call k) e (rw z q)
 
 pub plain_side : (X Y : ℕ → Type 0) (r : Rec) (Q : Pile) (rs : List Rec) → plain_call r.call ≡ true → Side X Y r Q rs
 plain_side X Y r Q rs e = record {
-  quiet = λ q. off (quiet_call r.call) e q;
+  empty_behind = λ q. off (empties_call r.call) e q;
   fixed = rw (call_is r.call 19 e refl, call_is r.call 20 e refl, call_is r.call 21 e refl, call_is r.call 25 e refl, call_is r.call 26 e refl) tt;
-  body = λ q. off (quiet_call r.call) e (rw q refl);
-  on = λ q. off (quiet_call r.call) e (rw q refl);
+  body = λ q. off (empties_call r.call) e (rw q refl);
+  on = λ q. off (empties_call r.call) e (rw q refl);
 }
 
 -- no target at all
-abbrev pub Never : ℕ → Type 0
-Never v = ⊥
+abbrev pub NoTarget : ℕ → Type 0
+NoTarget v = ⊥
 
 -- a run in which nothing is asked besides the steps
 abbrev pub Plain : List Entry → List Rec → Pile → Pile → Type 0
-Plain es xs P Q = Flow es Never Never xs P Q
+Plain es xs P Q = Flow es NoTarget NoTarget xs P Q
 
 -- the same from one pile to another, whatever lies below
 abbrev pub Turns : List Entry → (Pile → Pile) → (Pile → Pile) → List Rec → Type 0
 Turns E f g xs = (P : Pile) → Plain E xs (f P) (g P)
 
 pub plain_one : (es : List Entry) (r : Rec) (P Q : Pile) → plain_call r.call ≡ true → step es r P ≡ given Q → Plain es (r ∷ []) P Q
-plain_one es r P Q e s = go s (plain_side Never Never r Q [] e) done
+plain_one es r P Q e s = go s (plain_side NoTarget NoTarget r Q [] e) done
 
 -- in a block at B the end of a function is behind its 26, with at least one record between
 abbrev pub Ahead : ℕ → List Rec → Type 0
@@ -147,7 +147,7 @@ ahead_at B (x ∷ xs) zero h a e = omega (arith, a.0 e)
 ahead_at B (x ∷ xs) (suc k) h a e = let l = ahead_at (suc B) xs k (omega arith) a.1 e in omega (arith, l)
 
 -- where there is no function
-pub flow_ahead : {es : List Entry} {X : ℕ → Type 0} {xs : List Rec} {P Q : Pile} (B : ℕ) → Flow es X Never xs P Q → Ahead B xs
+pub flow_ahead : {es : List Entry} {X : ℕ → Type 0} {xs : List Rec} {P Q : Pile} (B : ℕ) → Flow es X NoTarget xs P Q → Ahead B xs
 flow_ahead B done = tt
 flow_ahead B (go s w a) = (λ e. absurd (w.body e), flow_ahead (suc B) a)
 

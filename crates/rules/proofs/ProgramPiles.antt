@@ -26,8 +26,8 @@ use Rattle.rules.proofs.Grown.{Prefix, Code, seq, stay, fails, with_ok, Warning,
 use Rattle.rules.proofs.ExprPiles.{Few}
 use Rattle.rules.proofs.Blocks.{Empty, Body, Good, good_nil, first_empty}
 use Rattle.rules.proofs.BlockPiles.{FormedStmts, then_of, stmts_code}
-use Rattle.rules.proofs.Traces.{Fixed, Trace, Zip, Alike, flow_trace, trace_quiet, zip_trace, zip_pile, zip_ahead, zip_call}
-use Rattle.rules.proofs.ClosingPiles.{each, settle_to, Settles, Pass, Aimed, Full, pass_waiting, label_zip, restore_zip, while_zip}
+use Rattle.rules.proofs.Traces.{Fixed, Trace, Zip, Alike, flow_trace, trace_empty, zip_trace, zip_pile, zip_ahead, zip_call}
+use Rattle.rules.proofs.ClosingPiles.{each, settle_to, Settles, Pass, Targeted, Full, pass_waiting, label_zip, restore_zip, while_zip}
 use Rattle.rules.proofs.DelayPiles.{Sound, delays_sound}
 use Rattle.rules.proofs.Assign.{finished_piles}
 
@@ -165,22 +165,22 @@ module _ (t : List ℕ) (c : Lines Ideal) where
       W : List Rec
       W = close_whiles v.records 0
 
-      z₁ : Zip (Alike E (Fixed X Y) (Aimed X Y)) C (each (settle_to jumps c.marks) C)
+      z₁ : Zip (Alike E (Fixed X Y) (Targeted X Y)) C (each (settle_to jumps c.marks) C)
       z₁ = label_zip E X Y c.marks C marks (first_pass.ok n₁)
 
-      z₂ : Zip (Alike E (Aimed X Y) (Aimed X Y)) (each (settle_to jumps c.marks) C) v.records
+      z₂ : Zip (Alike E (Targeted X Y) (Targeted X Y)) (each (settle_to jumps c.marks) C) v.records
       z₂ = rw v_records (restore_zip E X Y c.marks (each (settle_to jumps c.marks) C))
 
-      tr₂ : Trace E (Aimed X Y) v.records [] []
+      tr₂ : Trace E (Targeted X Y) v.records [] []
       tr₂ = zip_trace z₂ (zip_trace z₁ (flow_trace g.flow))
 
       wends : (n : ℕ) → n < length v.records → is_wend (get_or v.records n no_rec) ≡ true → X (suc n)
       wends n h e =
           let k : (get_or v.records n no_rec).call ≡ 2 = eqb-true (get_or v.records n no_rec).call 2 (both_left (eqb (get_or v.records n no_rec).call 2) (eqb (get_or v.records n no_rec).a 62) e) in
-          let q : pile_in E v.records [] (suc n) ≡ given [] = trace_quiet tr₂ n h (rw k refl) in
+          let q : pile_in E v.records [] (suc n) ≡ given [] = trace_empty tr₂ n h (rw k refl) in
           record { at = suc n; place = omega arith; within = omega (arith, h, v_length); pile = sym (zip_pile z₁ [] (suc n)) ∙ sym (zip_pile z₂ [] (suc n)) ∙ q }
 
-      z₃ : Zip (Alike E (Aimed X Y) (Full X Y)) v.records W
+      z₃ : Zip (Alike E (Targeted X Y) (Full X Y)) v.records W
       z₃ = while_zip E X Y v.records n₂ wends
 
       long : length W ≡ length C

@@ -15,7 +15,8 @@ use Rattle.std.specs.Prelude.{Ok, Err}
 use Rattle.sheet.specs.declared.form.Line.{Line}
 use Rattle.sheet.specs.declared.form.Offence.TheVariants.{BadLength}
 use Rattle.sheet.specs.Check.{Accepted}
-use Rattle.sheet.specs.Table.{one, optional, list, non_empty, non_empty₂, optional_list, expr, flag, place, input_place, stmt, may_stand, expr_fields, shape_fields}
+use Rattle.sheet.specs.Table.{one, optional, list, non_empty, non_empty₂, optional_list, expr, flag, place, input_place, stmt, may_stand, expr_fields}
+use Rattle.sheet.specs.Shapes.{shape_fields}
 use Rattle.sheet.specs.Form
 use Rattle.sheet.specs.Check.{checked}
 use Rattle.sheet.specs.Skip.{skip_item, skip_pair, skip_list, skip_times, skip_field, skip_node, skip_source, skip_element}
@@ -24,7 +25,7 @@ use Rattle.sheet.proofs.Walks.{pick_behind}
 use Rattle.sheet.proofs.Shapes.{fields_rule}
 use Rattle.walk.proofs.Lines.{then_first}
 use Rattle.walk.proofs.Within.{walked}
-use Rattle.walk.proofs.Accepted.{Lands, lands_choose, lands_then, word_lands, range_lands, item_lands, list_lands, field_lands, node_lands, accepted}
+use Rattle.walk.proofs.Accepted.{EndsAt, ends_at_choose, ends_at_then, word_ends_at, range_ends_at, item_ends_at, list_ends_at, field_ends_at, node_ends_at, accepted}
 use Rattle.rules.specs.declared.types.«Type».TheVariants.{String, Real}
 use Rattle.rules.specs.Missing.{All}
 use Rattle.rules.specs.Tables.{operand}
@@ -32,7 +33,7 @@ use Rattle.rules.specs.Piles.{is_set}
 use Rattle.rules.proofs.BoolLaws.{no_one}
 use Rattle.rules.proofs.OpPiles.{IsPlace, IsInput, AllExprs, Filled, FilledCall, FormedElement, PlainOp, DrawOp, SetOp}
 use Rattle.rules.proofs.BlockPiles.{Some, FormedStmt, FormedStmts}
-use Rattle.rules.proofs.SheetWalk.{goes_on, nonempty, inside}
+use Rattle.rules.proofs.SheetWalk.{two_parts, nonempty, inside}
 use Rattle.rules.proofs.ProgramPiles.{Formed}
 
 -- the numbers of statements, by their shape
@@ -171,7 +172,7 @@ module _ (s : List ℕ) (child : ℕ → Expr) (skip : ℕ → ℕ) where
 -- a walk that goes through
 pub record Through (w : Walk) : Type 0 where
   pub behind : ℕ
-  pub goes : w ≡ Ok behind
+  pub ends_behind : w ≡ Ok behind
 
 module _ (s t : List ℕ) (line : Line) where
   -- the first field, and the others behind it
@@ -179,17 +180,17 @@ module _ (s t : List ℕ) (line : Line) where
     pub first : Through (Form.field_form s t line child f at)
     pub rest : Form.fields_form s t line child fs (skip_field s skip f at) ≡ Ok p
 
-  module _ (child : Sort → ℕ → Walk) (skip : Sort → ℕ → ℕ) (lands : (c : Sort) (at : ℕ) → Lands (child c at) (skip c at)) where
+  module _ (child : Sort → ℕ → Walk) (skip : Sort → ℕ → ℕ) (walk_ends : (c : Sort) (at : ℕ) → EndsAt (child c at) (skip c at)) where
     head_field : (f : Field) (fs : List Field) (at p : ℕ) → Form.fields_form s t line child (f ∷ fs) at ≡ Ok p → HeadField child skip f fs at p
     unfolding Form.fields_form
     head_field f fs at p e =
         let q = skip_field s skip f at in
-        let u = goes_on (Form.field_form s t line child f at) (λ q. Form.fields_form s t line child fs q) q p (field_lands s t line child skip lands f at) e in
-        record { first = record { behind = q; goes = u.0 }; rest = u.1 }
+        let u = two_parts (Form.field_form s t line child f at) (λ q. Form.fields_form s t line child fs q) q p (field_ends_at s t line child skip walk_ends f at) e in
+        record { first = record { behind = q; ends_behind = u.0 }; rest = u.1 }
 
     one_item : (i : Item) (at p : ℕ) → Form.field_form s t line child (one i) at ≡ Ok p → Through (Form.item_form s t line child i at)
     unfolding Form.field_form Form.times_form Form.pair_form
-    one_item i at p e = let u = then_first _ (Form.item_form s t line child i at) (λ q. Form.item_form s t line child Nothing q) p refl e in record { behind = u.0; goes = u.1 }
+    one_item i at p e = let u = then_first _ (Form.item_form s t line child i at) (λ q. Form.item_form s t line child Nothing q) p refl e in record { behind = u.0; ends_behind = u.1 }
 
     one_node : (c : Sort) (at p : ℕ) → Form.field_form s t line child (one (Node c)) at ≡ Ok p → Through (child c at)
     unfolding Form.item_form
@@ -198,7 +199,7 @@ module _ (s t : List ℕ) (line : Line) where
     -- the items of a list
     list_items : (f : ℕ → Walk) (at p : ℕ) → Form.list_form s t line f at ≡ Ok p → Form.repeat_form s t line f (payload_at s at) (next s at) ≡ Ok p
     unfolding Form.list_form
-    list_items f at p e = (goes_on (Form.count_form s at) (λ q. Form.repeat_form s t line f (payload_at s at) q) (next s at) p (word_lands s 4 16777216 at) e).1
+    list_items f at p e = (two_parts (Form.count_form s at) (λ q. Form.repeat_form s t line f (payload_at s at) q) (next s at) p (word_ends_at s 4 16777216 at) e).1
 
     listed : (a : Item) (at p : ℕ) → Form.field_form s t line child (list a) at ≡ Ok p → Form.repeat_form s t line (Form.pair_form s t line child a Nothing) (payload_at s at) (next s at) ≡ Ok p
     unfolding Form.field_form Form.times_form
@@ -272,11 +273,11 @@ module _ (s t : List ℕ) (line : Line) where
       filled : payload_at s at ≡ 3 → Form.fields_form s t line (node left) (expr_fields (payload_at s at)) P ≡ Ok p → Filled (expr_list_at s (expr_at s left) (skip_node s left exprSort) (next s (next s P)))
       filled k h = unfold expr_fields skip_field skip_times skip_pair skip_item in
           let h₀ = subst (λ (n : ℕ). Form.fields_form s t line (node left) (expr_fields n) P ≡ Ok p) k h in
-          let a = head_field (node left) (skip_node s left) (node_lands s t line left) _ _ P p h₀ in
-          let b = head_field (node left) (skip_node s left) (node_lands s t line left) _ _ (next s P) p a.rest in
-          let c = head_field (node left) (skip_node s left) (node_lands s t line left) _ _ (next s (next s P)) p b.rest in
+          let a = head_field (node left) (skip_node s left) (node_ends_at s t line left) _ _ P p h₀ in
+          let b = head_field (node left) (skip_node s left) (node_ends_at s t line left) _ _ (next s P) p a.rest in
+          let c = head_field (node left) (skip_node s left) (node_ends_at s t line left) _ _ (next s (next s P)) p b.rest in
           filled_list s (expr_at s left) (skip_node s left exprSort) (payload_at s (next s (next s P))) (next s (next s (next s P)))
-          (listed_some (node left) (skip_node s left) (node_lands s t line left) expr Nothing (next s (next s P)) c.first.behind c.first.goes).0
+          (listed_some (node left) (skip_node s left) (node_ends_at s t line left) expr Nothing (next s (next s P)) c.first.behind c.first.ends_behind).0
 
   -- a statement's parts, where `left` depths are left and those below are formed
   module _ (left : ℕ) (below : (at p : ℕ) → node left stmtSort at ≡ Ok p → FormedStmt (stmt_at s left at)) where
@@ -290,13 +291,13 @@ module _ (s t : List ℕ) (line : Line) where
     Fs fs at p = Form.fields_form s t line child fs at ≡ Ok p
 
     head : (f : Field) (fs : List Field) (at p : ℕ) → Fs (f ∷ fs) at p → HeadField child skip f fs at p
-    head f fs at p e = head_field child skip (node_lands s t line left) f fs at p e
+    head f fs at p e = head_field child skip (node_ends_at s t line left) f fs at p e
 
     first_place : (fs : List Field) (at p : ℕ) → Fs (one place ∷ fs) at p → IsPlace (expr_at s left at)
     first_place fs at p e =
         let a = head (one place) fs at p e in
-        let b = one_node child skip (node_lands s t line left) placeSort at a.first.behind a.first.goes in
-        place_tree left at b.behind b.goes
+        let b = one_node child skip (node_ends_at s t line left) placeSort at a.first.behind a.first.ends_behind in
+        place_tree left at b.behind b.ends_behind
 
     two_places : (at p : ℕ) → Fs (one place ∷ one place ∷ []) at p → IsPlace (expr_at s left at) × IsPlace (expr_at s left (skip placeSort at))
     unfolding skip_field skip_times skip_pair skip_item
@@ -307,9 +308,9 @@ module _ (s t : List ℕ) (line : Line) where
     read_places : (at p : ℕ) → Fs (non_empty place ∷ []) at p → AllExprs IsPlace (exprs_at s (expr_at s left) (skip placeSort) (payload_at s at) (next s at))
     read_places at p e =
         let a = head (non_empty place) [] at p e in
-        let b = listed_some child skip (node_lands s t line left) place Nothing at a.first.behind a.first.goes in
+        let b = listed_some child skip (node_ends_at s t line left) place Nothing at a.first.behind a.first.ends_behind in
         repeat_exprs (Form.pair_form s t line child place Nothing) (skip placeSort) IsPlace (expr_at s left)
-        (λ q r f. let g = single_node child skip (node_lands s t line left) placeSort q r f in (accepted s t line left placeSort q r g, place_tree left q r g))
+        (λ q r f. let g = single_node child skip (node_ends_at s t line left) placeSort q r f in (accepted s t line left placeSort q r g, place_tree left q r g))
         (payload_at s at) (next s at) a.first.behind b.1
 
     input_places : (at p : ℕ) → Fs (one source ∷ non_empty input_place ∷ []) at p
@@ -319,9 +320,9 @@ module _ (s t : List ℕ) (line : Line) where
         let a = head _ (non_empty input_place ∷ []) at p e in
         let q = skip_source s skip (payload_at s at) (next s at) in
         let b = head (non_empty input_place) [] q p a.rest in
-        let c = listed_some child skip (node_lands s t line left) input_place Nothing q b.first.behind b.first.goes in
+        let c = listed_some child skip (node_ends_at s t line left) input_place Nothing q b.first.behind b.first.ends_behind in
         repeat_exprs (Form.pair_form s t line child input_place Nothing) (skip inputSort) IsInput (expr_at s left)
-        (λ m r f. let g = single_node child skip (node_lands s t line left) inputSort m r f in (accepted s t line left inputSort m r g, input_tree left m r g))
+        (λ m r f. let g = single_node child skip (node_ends_at s t line left) inputSort m r f in (accepted s t line left inputSort m r g, input_tree left m r g))
         (payload_at s q) (next s q) b.first.behind c.1
 
     field_places : (at p : ℕ) → Fs (one expr ∷ non_empty₂ expr place ∷ []) at p
@@ -331,12 +332,12 @@ module _ (s t : List ℕ) (line : Line) where
         let a = head (one expr) (non_empty₂ expr place ∷ []) at p e in
         let q = skip exprSort at in
         let b = head (non_empty₂ expr place) [] q p a.rest in
-        let c = listed_some child skip (node_lands s t line left) expr place q b.first.behind b.first.goes in
+        let c = listed_some child skip (node_ends_at s t line left) expr place q b.first.behind b.first.ends_behind in
         repeat_items (Form.pair_form s t line child expr place) (λ q. skip placeSort (skip exprSort q)) (λ (f : FieldSpec). IsPlace f.var) _ (λ m r f. one_field m r f) (payload_at s q) (next s q) b.first.behind c.1
       where
         one_field : (m r : ℕ) → Form.pair_form s t line child expr place m ≡ Ok r → (r ≡ skip placeSort (skip exprSort m)) × IsPlace (expr_at s left (skip exprSort m))
         one_field m r f = unfold Form.pair_form Form.item_form in
-            let g = (goes_on (child exprSort m) (λ q. child placeSort q) (skip exprSort m) r (node_lands s t line left exprSort m) f).1 in
+            let g = (two_parts (child exprSort m) (λ q. child placeSort q) (skip exprSort m) r (node_ends_at s t line left exprSort m) f).1 in
             (accepted s t line left placeSort (skip exprSort m) r g, place_tree left (skip exprSort m) r g)
 
     some_items : {A : Type 0} (h : ℕ → A) (g : ℕ → ℕ) (n at : ℕ) → eqb n 0 ≡ false → Some (items_at s h g n at)
@@ -351,7 +352,7 @@ module _ (s t : List ℕ) (line : Line) where
         let a = head (optional expr) (non_empty₂ expr flag ∷ []) at p e in
         let q = choose (Form.is_absent s at) (next s) (skip exprSort) at in
         let b = head (non_empty₂ expr flag) [] q p a.rest in
-        some_items _ _ (payload_at s q) (next s q) (listed_some child skip (node_lands s t line left) expr flag q b.first.behind b.first.goes).0
+        some_items _ _ (payload_at s q) (next s q) (listed_some child skip (node_ends_at s t line left) expr flag q b.first.behind b.first.ends_behind).0
 
     element_of_lem : (n q p : ℕ) → Form.element_rest s t line child n q ≡ Ok p → FormedElement (element_of s left (stmt_at s left) n q)
     element_of_lem zero q p e = call_tree left q p e
@@ -362,22 +363,22 @@ module _ (s t : List ℕ) (line : Line) where
         → All FormedElement (items_at s (λ q. element_of s left (stmt_at s left) (payload_at s q) (next s q)) (λ q. skip_element s skip (payload_at s q) (next s q)) (payload_at s at) (next s at))
     elements at p e =
         let a = head _ [] at p e in
-        let b = listed child skip (node_lands s t line left) _ at a.first.behind a.first.goes in
+        let b = listed child skip (node_ends_at s t line left) _ at a.first.behind a.first.ends_behind in
         repeat_items (Form.pair_form s t line child element Nothing) (λ q. skip_element s skip (payload_at s q) (next s q)) FormedElement _ (λ m r f. one_element m r f)
         (payload_at s at) (next s at) a.first.behind b
       where
         one_element : (m r : ℕ) → Form.pair_form s t line child element Nothing m ≡ Ok r
             → (r ≡ skip_element s skip (payload_at s m) (next s m)) × FormedElement (element_of s left (stmt_at s left) (payload_at s m) (next s m))
         one_element m r f = unfold Form.item_form skip_item in
-            let g = single child skip (node_lands s t line left) element m r f in
-            let h = (goes_on (Form.take_word s 8 3 m) (λ q. Form.element_rest s t line child (payload_at s m) q) (next s m) r (word_lands s 8 3 m) g).1 in
-            ((item_lands s t line child skip (node_lands s t line left) element m).ends r g, element_of_lem (payload_at s m) (next s m) r h)
+            let g = single child skip (node_ends_at s t line left) element m r f in
+            let h = (two_parts (Form.take_word s 8 3 m) (λ q. Form.element_rest s t line child (payload_at s m) q) (next s m) r (word_ends_at s 8 3 m) g).1 in
+            ((item_ends_at s t line child skip (node_ends_at s t line left) element m).ends r g, element_of_lem (payload_at s m) (next s m) r h)
 
     -- statements inside an IF
     stmts_of : (n at p : ℕ) → Form.repeat_form s t line (Form.pair_form s t line child stmt Nothing) n at ≡ Ok p → FormedStmts (stmts_at s (stmt_at s left) (skip stmtSort) n at)
     stmts_of n at p e =
         repeat_stmts (Form.pair_form s t line child stmt Nothing) (skip stmtSort) (stmt_at s left)
-        (λ q r f. let g = single_node child skip (node_lands s t line left) stmtSort q r f in (accepted s t line left stmtSort q r g, below q r g)) n at p e
+        (λ q r f. let g = single_node child skip (node_ends_at s t line left) stmtSort q r f in (accepted s t line left stmtSort q r g, below q r g)) n at p e
 
     if_of : (r : Range) (at p : ℕ) → Fs (one expr ∷ list stmt ∷ optional_list stmt ∷ []) at p → FormedStmt (if_at s left (stmt_at s left) r at)
     unfolding skip_field skip_times skip_pair skip_item Form.field_form Form.times_form
@@ -385,9 +386,9 @@ module _ (s t : List ℕ) (line : Line) where
         let a = head (one expr) (list stmt ∷ optional_list stmt ∷ []) at p e in
         let q = skip exprSort at in
         let b = head (list stmt) (optional_list stmt ∷ []) q p a.rest in
-        let x = stmts_of (payload_at s q) (next s q) b.first.behind (listed child skip (node_lands s t line left) stmt q b.first.behind b.first.goes) in
+        let x = stmts_of (payload_at s q) (next s q) b.first.behind (listed child skip (node_ends_at s t line left) stmt q b.first.behind b.first.ends_behind) in
         let c = head (optional_list stmt) [] (skip_list s (skip stmtSort) q) p b.rest in
-        go (Form.is_absent s (skip_list s (skip stmtSort) q)) x c.first.behind c.first.goes
+        go (Form.is_absent s (skip_list s (skip stmtSort) q)) x c.first.behind c.first.ends_behind
       where
         m : ℕ
         m = skip_list s (skip stmtSort) (skip exprSort at)
@@ -397,7 +398,7 @@ module _ (s t : List ℕ) (line : Line) where
             → FormedStmt (choose b (λ q. if_then r (expr_at s left at) (stmts_at s (stmt_at s left) (skip stmtSort) (payload_at s (skip exprSort at)) (next s (skip exprSort at))))
             (λ q. if_else r (expr_at s left at) (stmts_at s (stmt_at s left) (skip stmtSort) (payload_at s (skip exprSort at)) (next s (skip exprSort at))) (stmts_at s (stmt_at s left) (skip stmtSort) (payload_at s q) (next s q))) m)
         go true x u h = x
-        go false x u h = (x, stmts_of (payload_at s m) (next s m) u (list_items child skip (node_lands s t line left) (Form.pair_form s t line child stmt Nothing) m u h))
+        go false x u h = (x, stmts_of (payload_at s m) (next s m) u (list_items child skip (node_ends_at s t line left) (Form.pair_form s t line child stmt Nothing) m u h))
 
     shape_of_lem : (x : Shape) (k : ℕ) (r : Range) (at p : ℕ) → op_test x k ≡ true → Fs (shape_fields x) at p → FormedStmt (stmt_node s left (stmt_at s left) x k r at)
     unfolding stmt_node
@@ -442,11 +443,11 @@ module _ (s t : List ℕ) (line : Line) where
 
 -- a line, and where it ends
 module _ (s t : List ℕ) where
-  label_lands : (line : Line) (at : ℕ) → Lands (Form.label_form s line at) (behind_label s at)
+  label_ends_at : (line : Line) (at : ℕ) → EndsAt (Form.label_form s line at) (behind_label s at)
   unfolding Form.label_form
-  label_lands line at =
-      lands_choose (Form.is_absent s at) (Form.absent_form s) (λ p. Form.then (Form.range_form s line p) (λ q. Form.take_word s 3 65536 q)) (next s) (λ p. next s (next s p)) at (word_lands s 2 1 at)
-      (lands_then _ _ (next s at) _ (range_lands s line at) (word_lands s 3 65536 (next s at)))
+  label_ends_at line at =
+      ends_at_choose (Form.is_absent s at) (Form.absent_form s) (λ p. Form.then (Form.range_form s line p) (λ q. Form.take_word s 3 65536 q)) (next s) (λ p. next s (next s p)) at (word_ends_at s 2 1 at)
+      (ends_at_then _ _ (next s at) _ (range_ends_at s line at) (word_ends_at s 3 65536 (next s at)))
 
   line_tree : (base at p : ℕ) → Form.line_form s t base at ≡ Ok p → (p ≡ behind_line s at) × FormedStmts (line_stmts s (behind_label s (next s at)))
   unfolding Form.line_form Form.line_head
@@ -454,13 +455,13 @@ module _ (s t : List ℕ) where
       let line = Form.line_of s t base at in
       let f = Form.node_form s t line 64 stmtSort in
       let u = then_first _ (Form.line_head s t base at) (λ p. Form.then (Form.label_form s line p) (λ q. Form.list_form s t line f q)) p refl e in
-      let h = goes_on (Form.take_word s 16 4096 at) (λ p. pick (leb (base + payload_at s at) (length t)) (Ok p) (Err (BadLength at))) (next s at) u.0 (word_lands s 16 4096 at) u.1 in
+      let h = two_parts (Form.take_word s 16 4096 at) (λ p. pick (leb (base + payload_at s at) (length t)) (Ok p) (Err (BadLength at))) (next s at) u.0 (word_ends_at s 16 4096 at) u.1 in
       let z : u.0 ≡ next s at = sym (pick_behind (leb (base + payload_at s at) (length t)) (next s at) u.0 (BadLength at) h.1).1 in
       let m = behind_label s (next s at) in
-      let w = (goes_on (Form.label_form s line (next s at)) (λ q. Form.list_form s t line f q) m p (label_lands line (next s at)) (rw z at u.2)).1 in
-      let lands = node_lands s t line 64 in (
-        (list_lands s t line f (skip_node s 64 stmtSort) (lands stmtSort) m).ends p w,
-        repeat_stmts s t line f (skip_node s 64 stmtSort) (stmt_at s 64) (λ q r g. ((lands stmtSort q).ends r g, stmt_tree s t line 64 q r g)) (payload_at s m) (next s m) p (list_items s t line (Form.node_form s t line 64) (skip_node s 64) lands f m p w),
+      let w = (two_parts (Form.label_form s line (next s at)) (λ q. Form.list_form s t line f q) m p (label_ends_at line (next s at)) (rw z at u.2)).1 in
+      let walk_ends = node_ends_at s t line 64 in (
+        (list_ends_at s t line f (skip_node s 64 stmtSort) (walk_ends stmtSort) m).ends p w,
+        repeat_stmts s t line f (skip_node s 64 stmtSort) (stmt_at s 64) (λ q r g. ((walk_ends stmtSort q).ends r g, stmt_tree s t line 64 q r g)) (payload_at s m) (next s m) p (list_items s t line (Form.node_form s t line 64) (skip_node s 64) walk_ends f m p w),
       )
 
   lines_tree : (n base at p : ℕ) → Form.lines_form s t n base at ≡ Ok p → Formed (items_at s (line_at s) (behind_line s) n at)
@@ -474,7 +475,7 @@ module _ (s t : List ℕ) where
   sheet_tree : (p : ℕ) → Form.sheet_form s t ≡ Ok p → Formed (program_at s)
   unfolding Form.sheet_form program_at
   sheet_tree p e =
-      lines_tree (payload_at s 0) 0 (next s 0) p (goes_on (Form.take_word s 15 16777216 0) (λ q. Form.lines_form s t (payload_at s 0) 0 q) (next s 0) p (word_lands s 15 16777216 0) e).1
+      lines_tree (payload_at s 0) 0 (next s 0) p (two_parts (Form.take_word s 15 16777216 0) (λ q. Form.lines_form s t (payload_at s 0) 0 q) (next s 0) p (word_ends_at s 15 16777216 0) e).1
 
   -- an accepted sheet is in form
   pub accepted_formed : (work : ℕ) → checked s t work ≡ Accepted → Formed (program_at s)

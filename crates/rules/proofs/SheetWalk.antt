@@ -13,11 +13,11 @@ use Rattle.sheet.specs.Form
 use Rattle.sheet.specs.Skip.{skip_node}
 use Rattle.sheet.proofs.Walks.{pick_behind}
 use Rattle.walk.proofs.Lines.{then_first}
-use Rattle.walk.proofs.Accepted.{Lands, lands_at, lands_never, lands_pick, word_lands, head_lands, own_lands, node_lands}
+use Rattle.walk.proofs.Accepted.{EndsAt, ok_ends_at, err_ends_at, ends_at_pick, word_ends_at, head_ends_at, own_ends_at, node_ends_at}
 
 -- a walk in two parts, whose first ends at x
-pub goes_on : (w : Walk) (f : ℕ → Walk) (x p : ℕ) → Lands w x → Form.then w f ≡ Ok p → (w ≡ Ok x) × (f x ≡ Ok p)
-goes_on w f x p a e =
+pub two_parts : (w : Walk) (f : ℕ → Walk) (x p : ℕ) → EndsAt w x → Form.then w f ≡ Ok p → (w ≡ Ok x) × (f x ≡ Ok p)
+two_parts w f x p a e =
     let u = then_first (Form.then w f) w f p refl e in
     let z : u.0 ≡ x = a.ends u.0 u.1 in
     (rw z at u.1, rw z at u.2)
@@ -29,7 +29,7 @@ refuses false q p o e = refl
 module _ (s : List ℕ) where
   pub nonempty : (at p : ℕ) → Form.non_empty_form s at ≡ Ok p → eqb (payload_at s at) 0 ≡ false
   unfolding Form.non_empty_form
-  nonempty at p e = refuses (eqb (payload_at s at) 0) (next s at) p (BadWord at) (goes_on (Form.count_form s at) _ (next s at) p (word_lands s 4 16777216 at) e).1
+  nonempty at p e = refuses (eqb (payload_at s at) 0) (next s at) p (BadWord at) (two_parts (Form.count_form s at) _ (next s at) p (word_ends_at s 4 16777216 at) e).1
 
   module _ (t : List ℕ) (line : Line) where
     -- a node: its head, its range, its fields
@@ -43,7 +43,7 @@ module _ (s : List ℕ) where
         let k = payload_at s at in
         let child = Form.node_form s t line left in
         let q = next s at in
-        let u = goes_on (Form.head_form s c at) _ q p (head_lands s c at) e in
-        let v = goes_on (Form.fseek_form s c at q) _ q p (lands_pick (is_fseek c k) _ _ _ (lands_never (Fseek at) q) (lands_at q)) u.1 in
-        let w = goes_on (Form.item_form s t line child (own_range c k) q) _ (next s q) p (own_lands s t line child (skip_node s left) (node_lands s t line left) c k q) v.1 in
+        let u = two_parts (Form.head_form s c at) _ q p (head_ends_at s c at) e in
+        let v = two_parts (Form.fseek_form s c at q) _ q p (ends_at_pick (is_fseek c k) _ _ _ (err_ends_at (Fseek at) q) (ok_ends_at q)) u.1 in
+        let w = two_parts (Form.item_form s t line child (own_range c k) q) _ (next s q) p (own_ends_at s t line child (skip_node s left) (node_ends_at s t line left) c k q) v.1 in
         record { stands = both_right (eqb (kind_at s at) (node_kind c)) (may_stand c k) (pick_behind (both (eqb (kind_at s at) (node_kind c)) (may_stand c k)) q q (BadWord at) u.0).0; fields = w.1 }

@@ -6,7 +6,8 @@ use Rattle.recorder.specs.Word.{pick, either}
 use Rattle.recorder.specs.Ideal.{Ideal}
 use Rattle.recorder.specs.Layout.{note_size, entry_size, most_records}
 use Rattle.recorder.specs.Mem.{Mem, mem, mem_r, records_in, list_full, notes_full, book_full, nothing}
-use Rattle.simulation.proofs.Sim.{Held, held_count, held_full, Room, records_held}
+use Rattle.simulation.specs.Held.{Held}
+use Rattle.simulation.proofs.Sim.{held_count, held_full, Room, records_held}
 use Rattle.simulation.proofs.Clean.{Done}
 use Rattle.simulation.proofs.Memory.{sim_start, memory_simulates}
 use Rattle.sheet.specs.Tree.{program_at}
@@ -28,9 +29,9 @@ abbrev pub mem_outcome : Lengths → Mem → Mem → Outcome
 mem_outcome L m₁ m₂ = pick (either (list_full m₁.st) (leb (most_records L.list) (records_in m₁.st))) (refused 9 0 L) (mem_sized L m₂)
 
 -- one more does not fit: by the count and the flag as by the rules
-held_tight : {cap n count : ℕ} {full : Bool} (k : ℕ) → Held cap n count full → k ≡ n + 1 → either full (leb cap count) ≡ ltb cap k
-held_tight {cap} {full = true} k h e = sym (lt-ltb cap k (omega (arith, held_full h refl)))
-held_tight {cap} {count = count} {full = false} k h e = go (dec_lt count cap)
+held_one_more : {cap n count : ℕ} {full : Bool} (k : ℕ) → Held cap n count full → k ≡ n + 1 → either full (leb cap count) ≡ ltb cap k
+held_one_more {cap} {full = true} k h e = sym (lt-ltb cap k (omega (arith, held_full h refl)))
+held_one_more {cap} {count = count} {full = false} k h e = go (dec_lt count cap)
   where
     go : Dec (count < cap) → leb cap count ≡ ltb cap k
     go (yes d) = lt-leb cap count d ∙ sym (le-ltb cap k (omega (arith, e, held_count h refl)))
@@ -51,10 +52,10 @@ held_sized L i n m₁ m₂ h e d = go (either (list_full m₁.st) (leb (most_rec
         (rw (q.count, held_count q.noted.held x, held_count q.booked.held y, q.list_is y, q.noted.same x, q.booked.same y) refl)
 
     go : (b : Bool) → either (list_full m₁.st) (leb (most_records L.list) (records_in m₁.st)) ≡ b → mem_outcome L m₁ m₂ ≡ sized i L
-    go true x = rw (x, sym (held_tight (length i.records) h e) ∙ x) refl
+    go true x = rw (x, sym (held_one_more (length i.records) h e) ∙ x) refl
     go false x =
         let p = neither (list_full m₁.st) (leb (most_records L.list) (records_in m₁.st)) x in
-        rw (x, sym (held_tight (length i.records) h e) ∙ x)
+        rw (x, sym (held_one_more (length i.records) h e) ∙ x)
         (fits (d (p.0, leb-false (most_records L.list) (records_in m₁.st) p.1)) (notes_full m₂.st) (book_full m₂.st) refl refl)
 
 -- the memory's run answers what the rules say
@@ -64,7 +65,7 @@ held_outcome s t L =
     let σ = memory_simulates L.list L.notes L.book t in
     let m = sim_start t L.list L.notes L.book in
     held_sized L (finished s t) (length (compiled s t).state.records) (mem_lines s t L).state (close_up (mem_r t) (mem_lines s t L))
-    (records_held (sim_lines σ t (program_at s) (sim_first σ t m)).goes.sim) (closed_length t (compiled s t)) (sim_program σ t (program_at s) m)
+    (records_held (sim_lines σ t (program_at s) (sim_first σ t m)).follows.sim) (closed_length t (compiled s t)) (sim_program σ t (program_at s) m)
 
 -- the buffers of a memory are as long as the lent ones
 pub record Long (L : Lengths) (m : Mem) : Type 0 where
@@ -75,7 +76,7 @@ pub record Long (L : Lengths) (m : Mem) : Type 0 where
 pub lines_long : (s t : List ℕ) (L : Lengths) → Long L (mem_lines s t L).state
 lines_long s t L =
     let σ = memory_simulates L.list L.notes L.book t in
-    let m = (sim_lines σ t (program_at s) (sim_first σ t (sim_start t L.list L.notes L.book))).goes.sim in
+    let m = (sim_lines σ t (program_at s) (sim_first σ t (sim_start t L.list L.notes L.book))).follows.sim in
     record { list = m.listed.long; notes = m.noted.long; book = m.booked.long }
 
 pub closed_long : (s t : List ℕ) (L : Lengths) → Room L.list (mem_lines s t L).state → Long L (close_up (mem_r t) (mem_lines s t L))

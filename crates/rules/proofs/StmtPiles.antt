@@ -1,8 +1,10 @@
 -- The other statements without targets of their own.
 use Rattle.std.proofs.Common.{◌≡◌, ℕ, zero, suc, ◌+◌, ◌≤◌, Bool, true, false, eqb, ltb, ◌⊎◌, List, [], ◌∷◌, ◌++◌, length, get_or, replicate, sym, refl, ap, ◌∙◌, subst, inl, inr, append-nil, arith, eq-eqb, ne_eqb, eqb-true}
+use Rattle.recorder.specs.Calls.{Awaited, for_label, label_word, range_number, pending_label, pack, goto_call, gosub_call, emit_goto, emit_gosub, value_dropped}
+use Rattle.recorder.specs.Numbers.{unknown}
 use Rattle.recorder.specs.Word.{pick, both, either, flag_of}
 use Rattle.recorder.specs.declared.word.Range.{Range}
-use Rattle.recorder.specs.Recorder.{Recorder, Named, pending_label, pack, unknown}
+use Rattle.recorder.specs.Recorder.{Recorder, Named}
 use Rattle.recorder.specs.Ideal.{Rec, rec, Entry, byte_kind, Ideal}
 use Rattle.recorder.specs.Closing.{rules_r}
 use Rattle.sheet.specs.Tree.{Opt, absent, given, Expr, ident, string_lit, number_lit, sys_func_call, user_func_call, binary, unary, index, inkey, error, Exprs, none, more, expr_range, count, Target, OnTarget, Len, WriteElement, PrintElement, value, comma, semicolon, InputSource, keyboard, file}
@@ -13,11 +15,11 @@ use Rattle.rules.specs.Tables.{signatures, signature_of, wanted, tab, spc, real_
 use Rattle.rules.specs.Expr.{Out, compile_sym, opt_real_sym, real_sym, text_node, compile_expr, compile_args, compile_typed, compile_lvalue}
 use Rattle.rules.specs.Stmt
 use Rattle.rules.specs.Missing.{All, Present, IfGiven, WholeExpr, WholeExprs, WholeElement, WholeSource, WholeWrite, value_calls, ends_well}
-use Rattle.rules.specs.Piles.{num, txt, plc, Pile, Want, a_text, any_place, fits, taken, kind_of, numbers, wants_of, step}
-use Rattle.rules.proofs.PileLaws.{Flow, Side, Jumps, is_jump_call, Never, Plain, plain_one, plain_call, flow_append, Turns}
-use Rattle.rules.proofs.Grown.{Code, seq, put, stay, emits, fails, warns, void, with_ok, dooms}
+use Rattle.rules.specs.Piles.{num, txt, plc, Pile, Want, a_text, any_place, fits, taken, kind_of, numbers, effect_of, step}
+use Rattle.rules.proofs.PileLaws.{Flow, Side, Jumps, is_jump_call, NoTarget, Plain, plain_one, plain_call, flow_append, Turns}
+use Rattle.rules.proofs.Grown.{Code, seq, put, stay, emits, fails, warns, claims_nothing, with_ok, one_of_two, behind_error}
 use Rattle.rules.proofs.ExprPiles.{Proper, same_kind, Clear, arg_pile, taken_numbers, Few, Known, Typed, number_step, sym_code, real_code, name_code, text_code, expr_code, args_code}
-use Rattle.rules.proofs.Blocks.{solo}
+use Rattle.rules.proofs.Blocks.{untargeted}
 use Rattle.rules.proofs.OpPiles.{IsPlace, IsInput, AllExprs, Filled, FilledCall, FormedElement, two, flat_two, flat_of, turn, closes, pushed, pushed_on, Placed, place_code, surplus_code, added_code, none_two}
 
 -- so many places upon a pile
@@ -86,20 +88,20 @@ module _ (E : List Entry) (few : Few E) (t : List ℕ) (base : ℕ) where
   abbrev Typ : Ty → List Rec → Type 0
   Typ x xs = Typed E few t base x xs
 
-  abbrev Kno : ℕ → Ty → List Rec → Type 0
-  Kno n x xs = Known E few t base n x xs
+  abbrev KnownHere : ℕ → Ty → List Rec → Type 0
+  KnownHere n x xs = Known E few t base n x xs
 
   abbrev Pla : Ty → List Rec → Type 0
   Pla x xs = Placed E few t base x xs
 
   -- a no-op
   pub rem_code : (r : Range) (i : Ideal) → Code E 0 i (R.emit i 1 r 0 0 0) (Unit {0}) Fl
-  unfolding step wants_of taken
+  unfolding step effect_of taken
   rem_code r i = emits E i (rec 1 i.line r 0 0 0) (Unit {0}) Fl (λ w. plain_one E (rec 1 i.line r 0 0 0) [] [] refl refl)
 
   -- FOR
   for_step : (l : ℕ) (r : Range) (n : ℕ) (e : Opt Expr) → step E (rec 23 l r n (Stmt.step_flag e) 0) (replicate (2 + Stmt.step_flag e) num ++ []) ≡ given []
-  unfolding step wants_of
+  unfolding step effect_of
   for_step l r n e = rw (taken_numbers (2 + Stmt.step_flag e) []) refl
 
   step_code : (e : Opt Expr) (i : Ideal) → Code E 0 i (Stmt.compile_step R t base e i) (IfGiven WholeExpr e) (Turns E (λ P. num ∷ num ∷ P) (λ P. replicate (2 + Stmt.step_flag e) num ++ P))
@@ -121,63 +123,75 @@ module _ (E : List Entry) (few : Few E) (t : List ℕ) (base : ℕ) where
 
   pub for_code : (r : Range) (v : Opt Range) (a b : Expr) (e : Opt Expr) (i : Ideal) → Code E 0 i (Stmt.compile_for R t base r v a b e i) (Present v × (WholeExpr a × WholeExpr b × IfGiven WholeExpr e)) Fl
   unfolding Stmt.compile_for
-  for_code r absent a b e i = void E 0 (⊥ × (WholeExpr a × WholeExpr b × IfGiven WholeExpr e)) Fl (λ w. w.0) (for_body r absent a b e i)
+  for_code r absent a b e i = claims_nothing E 0 (⊥ × (WholeExpr a × WholeExpr b × IfGiven WholeExpr e)) Fl (λ w. w.0) (for_body r absent a b e i)
   for_code r (given v) a b e i =
       with_ok E {W = WholeExpr a × WholeExpr b × IfGiven WholeExpr e} {A = Fl} 0 (omega arith)
       (closes E few t base (λ P. replicate (2 + Stmt.step_flag e) num ++ P) (for_body r (given v) a b e i) (omega arith) (rec 23 _ r _ (Stmt.step_flag e) 0) refl (for_step _ r _ e)) (λ w. w.1) (λ w xs u. u)
 
   -- a jump that waits for its label
-  waiting_side : (l : ℕ) (r : Range) (sub : ℕ) (a b c : ℕ) (rs : List Rec) → Side Never Never (rec (Stmt.go_call sub) l r a (pending_label b) c) [] rs
-  waiting_side l r sub a b c rs = go (eqb sub 1)
+  -- its call: GOSUB's or GOTO's
+  abbrev jump_call : Bool → ℕ
+  jump_call sub = pick sub gosub_call goto_call
+
+  waiting_side : (l : ℕ) (r : Range) (sub : Bool) (a b c : ℕ) (rs : List Rec) → Side NoTarget NoTarget (rec (jump_call sub) l r a (pending_label b) c) [] rs
+  waiting_side l r sub a b c rs = go sub
     where
       no : eqb (b + 1) 0 ≡ false
       no = ne_eqb (b + 1) 0 (λ e. omega arith)
 
-      go : (x : Bool) → Side Never Never (rec (pick x 21 20) l r a (b + 1) c) [] rs
-      go true = record { quiet = λ q. refl; fixed = rw no tt; body = λ e. absurd (omega arith); on = λ e. absurd (omega arith) }
-      go false = record { quiet = λ q. refl; fixed = rw no tt; body = λ e. absurd (omega arith); on = λ e. absurd (omega arith) }
+      go : (x : Bool) → Side NoTarget NoTarget (rec (jump_call x) l r a (b + 1) c) [] rs
+      go true = record { empty_behind = λ q. refl; fixed = rw no tt; body = λ e. absurd (omega arith); on = λ e. absurd (omega arith) }
+      go false = record { empty_behind = λ q. refl; fixed = rw no tt; body = λ e. absurd (omega arith); on = λ e. absurd (omega arith) }
 
-  waiting_step : (l : ℕ) (r : Range) (sub : ℕ) (a b c : ℕ) → step E (rec (Stmt.go_call sub) l r a b c) [] ≡ given []
-  unfolding step wants_of taken
-  waiting_step l r sub a b c = go (eqb sub 1)
-    where
-      go : (x : Bool) → step E (rec (pick x 21 20) l r a b c) [] ≡ given []
-      go true = refl
-      go false = refl
+  waiting_step : (l : ℕ) (r : Range) (sub : Bool) (a b c : ℕ) → step E (rec (jump_call sub) l r a b c) [] ≡ given []
+  unfolding step effect_of taken
+  waiting_step l r true a b c = refl
+  waiting_step l r false a b c = refl
 
   pub go_code : (r : Range) (sub : ℕ) (g : Opt Target) (i : Ideal) → Code E 0 i (Stmt.compile_go R t base r sub g i) (Unit {0}) Fl
   unfolding Stmt.compile_go
-  go_code r sub g i =
-      let q = rec (Stmt.go_call sub) i.line r unknown (pending_label (Stmt.target_label g)) (pack (Stmt.target_range r g)) in
-      emits E i q (Unit {0}) Fl (λ w. Flow.go (waiting_step i.line r sub unknown (pending_label (Stmt.target_label g)) (pack (Stmt.target_range r g)))
-      (waiting_side i.line r sub unknown (Stmt.target_label g) (pack (Stmt.target_range r g)) []) Flow.done)
+  go_code r sub g i = go (eqb sub 1)
+    where
+      w : Awaited
+      w = for_label (Stmt.target_label g) (Stmt.target_range r g)
+
+      waits : (x : Bool) → Code E 0 i (R.emit i (jump_call x) r unknown (label_word w) (range_number w)) (Unit {0}) Fl
+      waits x =
+          emits E i (rec (jump_call x) i.line r unknown (label_word w) (range_number w)) (Unit {0}) Fl
+          (λ u. Flow.go (waiting_step i.line r x unknown (label_word w) (range_number w)) (waiting_side i.line r x unknown (Stmt.target_label g) (range_number w) []) Flow.done)
+
+      go : (x : Bool) → Code E 0 i (pick x (emit_gosub (R.emit i) w r) (emit_goto (R.emit i) w r)) (Unit {0}) Fl
+      go true = waits true
+      go false = waits false
 
   -- ON: so many jumps stand behind it
   abbrev Jumping : ℕ → List Rec → Type 0
   Jumping n xs = Jumps n xs × Fl xs
 
-  jump_call : (sub : ℕ) → is_jump_call (Stmt.go_call sub) ≡ true
-  jump_call sub = go (eqb sub 1)
-    where
-      go : (x : Bool) → is_jump_call (pick x 21 20) ≡ true
-      go true = refl
-      go false = refl
+  jumps : (sub : Bool) → is_jump_call (jump_call sub) ≡ true
+  jumps true = refl
+  jumps false = refl
 
-  jump_of : (sub a b c n : ℕ) (r : Range) (i f : Ideal) → Code E 0 (R.emit i (Stmt.go_call sub) r a (pending_label b) c) f (Unit {0}) (Jumping n) → Code E 0 i f (Unit {0}) (Jumping (suc n))
+  jump_of : (sub : Bool) (a b c n : ℕ) (r : Range) (i f : Ideal) → Code E 0 (R.emit i (jump_call sub) r a (pending_label b) c) f (Unit {0}) (Jumping n) → Code E 0 i f (Unit {0}) (Jumping (suc n))
   jump_of sub a b c n r i f x =
-      let q = rec (Stmt.go_call sub) i.line r a (pending_label b) c in
+      let q = rec (jump_call sub) i.line r a (pending_label b) c in
       seq E {d₁ = 0} {d₂ = 0} {W₁ = Unit {0}} {W₂ = Unit {0}} {A = λ xs. xs ≡ q ∷ []} {B = Jumping n} {C = Jumping (suc n)} (emits E i q (Unit {0}) (λ xs. xs ≡ q ∷ []) (λ w. refl)) x (λ w. w) (λ w. w)
-      (λ xs ys u v. rw u ((jump_call sub, v.0), Flow.go (waiting_step i.line r sub a (pending_label b) c) (waiting_side i.line r sub a b c ys) v.1))
+      (λ xs ys u v. rw u ((jumps sub, v.0), Flow.go (waiting_step i.line r sub a (pending_label b) c) (waiting_side i.line r sub a b c ys) v.1))
+
+  waits_of : (sub : Bool) (w : Awaited) (l : ℕ) (lr : Range) (n : ℕ) (r : Range) (i f : Ideal) → w ≡ for_label l lr → Code E 0 (pick sub (emit_gosub (R.emit i) w r) (emit_goto (R.emit i) w r)) f (Unit {0}) (Jumping n)
+      → Code E 0 i f (Unit {0}) (Jumping (suc n))
+  waits_of true w l lr n r i f e x = jump_of true unknown l (pack lr) n r i f (rw e at x)
+  waits_of false w l lr n r i f e x = jump_of false unknown l (pack lr) n r i f (rw e at x)
 
   jumps_code : (sub : ℕ) (gs : List OnTarget) (i : Ideal) → Code E 0 i (Stmt.on_jumps R t base sub gs i) (Unit {0}) (Jumping (length gs))
   unfolding Stmt.on_jumps
   jumps_code sub [] i = stay E i (Unit {0}) (Jumping 0) (λ w. (tt, Flow.done))
   jumps_code sub (g ∷ gs) i =
-      jump_of sub unknown (Stmt.label_or0 g.label) (pack g.range) (length gs) g.range i _
+      waits_of (eqb sub 1) (for_label (Stmt.label_or0 g.label) g.range) (Stmt.label_or0 g.label) g.range (length gs) g.range i _ refl
       (jumps_code sub gs (Stmt.pending_jump R t base sub g.range (Stmt.label_or0 g.label) g.range i))
 
   on_step : (l : ℕ) (r : Range) (n : ℕ) → step E (rec 22 l r n 0 0) (num ∷ []) ≡ given []
-  unfolding step wants_of taken
+  unfolding step effect_of taken
   on_step l r n = refl
 
   pub on_code : (r : Range) (e : Expr) (gs : List OnTarget) (sub : ℕ) (i : Ideal) → Code E 0 i (Stmt.compile_on R t base r e gs sub i) (WholeExpr e) Fl
@@ -188,12 +202,12 @@ module _ (E : List Entry) (few : Few E) (t : List ℕ) (base : ℕ) where
       let m = R.emit j 22 r (length gs) 0 0 in
       let rest : Code E 0 j (Stmt.on_jumps R t base sub gs m) (Unit {0}) (λ xs. Plain E xs (num ∷ []) []) =
       seq E {d₁ = 0} {d₂ = 0} {W₁ = Unit {0}} {W₂ = Unit {0}} {A = λ xs. xs ≡ q ∷ []} {B = Jumping (length gs)} {C = λ xs. Plain E xs (num ∷ []) []} (emits E j q (Unit {0}) (λ xs. xs ≡ q ∷ []) (λ w. refl)) (jumps_code sub gs m) (λ w. w) (λ w. w)
-      (λ xs ys u v. rw u (Flow.go (on_step j.line r (length gs)) (record { quiet = λ z. refl; fixed = tt; body = λ z. absurd (omega arith); on = λ z. v.0 }) v.1)) in
+      (λ xs ys u v. rw u (Flow.go (on_step j.line r (length gs)) (record { empty_behind = λ z. refl; fixed = tt; body = λ z. absurd (omega arith); on = λ z. v.0 }) v.1)) in
       seq E {d₁ = 0} {d₂ = 0} {W₂ = Unit {0}} {W = WholeExpr e} {A = Turns E (λ P. P) (λ P. num ∷ P)} {B = λ xs. Plain E xs (num ∷ []) []} {C = Fl} (pushed E few t base Real tt e i) rest (λ w. w) (λ w. tt) (λ xs ys u v. flow_append (u []) v)
 
   -- RESTORE
   restore_step : (l : ℕ) (r : Range) (a b c : ℕ) → Fl (rec 31 l r a b c ∷ [])
-  unfolding step wants_of taken
+  unfolding step effect_of taken
   restore_step l r a b c = plain_one E (rec 31 l r a b c) [] [] refl refl
 
   pub restore_code : (r : Range) (g : Opt Target) (i : Ideal) → Code E 0 i (Stmt.compile_restore R t base r g i) (Unit {0}) Fl
@@ -205,7 +219,7 @@ module _ (E : List Entry) (few : Few E) (t : List ℕ) (base : ℕ) where
   Places n xs = (P : Pile) → Reaches E xs P (Over n P)
 
   fn_step : (l : ℕ) (r : Range) (n a : ℕ) → Turns E (λ P. P) (λ P. plc Real ∷ P) (rec 9 l r n a 0 ∷ [])
-  unfolding step wants_of taken
+  unfolding step effect_of taken
   fn_step l r n a P = plain_one E (rec 9 l r n a 0) P (plc Real ∷ P) refl refl
 
   one_place : (x : Ty) (xs : List Rec) → Turns E (λ P. P) (λ P. plc x ∷ P) xs → Places 1 xs
@@ -215,7 +229,7 @@ module _ (E : List Entry) (few : Few E) (t : List ℕ) (base : ℕ) where
   input_fn_lem r absent e i = go (Stmt.is_ident e)
     where
       go : (b : Bool) → Code E 0 i (Stmt.input_arg_by R t base b e i).state ⊥ (Places 1)
-      go true = void E 0 ⊥ (Places 1) (λ w. w) (real_code E few t base (expr_range e) i)
+      go true = claims_nothing E 0 ⊥ (Places 1) (λ w. w) (real_code E few t base (expr_range e) i)
       go false = fails E i 12 i.line (expr_range e) 0 ⊥ (Places 1)
   input_fn_lem r (given fr) e i = go (Stmt.is_ident e)
     where
@@ -223,7 +237,7 @@ module _ (E : List Entry) (few : Few E) (t : List ℕ) (base : ℕ) where
       x = real_sym R t base fr i
 
       go : (b : Bool) → Code E 0 i (Stmt.fn_place R t base (given fr) b r x.number (Stmt.input_arg_by R t base b e x.state).number (Stmt.input_arg_by R t base b e x.state).state) (Unit {0}) (Places 1)
-      go false = dooms E 12 x.state.line (expr_range e) 0 (Unit {0}) (Places 1) (real_code E few t base fr i)
+      go false = behind_error E 12 x.state.line (expr_range e) 0 (Unit {0}) (Places 1) (real_code E few t base fr i)
       go true =
           let y = real_sym R t base (expr_range e) x.state in
           put E {d = 2} {W = Unit {0}} {A = Nothing} {C = Places 1}
@@ -245,12 +259,12 @@ module _ (E : List Entry) (few : Few E) (t : List ℕ) (base : ℕ) where
   input_var_lem b (ident r) i = lvalue_place (ident r) i
   input_var_lem b (index r n es) i = lvalue_place (index r n es) i
   input_var_lem b (error r) i = lvalue_place (error r) i
-  input_var_lem b (string_lit r) i = void E 0 _ (Places 1) (λ w. w.1) (lvalue_place (string_lit r) i)
-  input_var_lem b (number_lit r e m) i = void E 0 _ (Places 1) (λ w. w.1) (lvalue_place (number_lit r e m) i)
-  input_var_lem b (sys_func_call r f k es) i = void E 0 _ (Places 1) (λ w. w.1) (lvalue_place (sys_func_call r f k es) i)
-  input_var_lem b (binary r a o k c) i = void E 0 _ (Places 1) (λ w. w.1) (lvalue_place (binary r a o k c) i)
-  input_var_lem b (unary r k e) i = void E 0 _ (Places 1) (λ w. w.1) (lvalue_place (unary r k e) i)
-  input_var_lem b (inkey r) i = void E 0 _ (Places 1) (λ w. w.1) (lvalue_place (inkey r) i)
+  input_var_lem b (string_lit r) i = claims_nothing E 0 _ (Places 1) (λ w. w.1) (lvalue_place (string_lit r) i)
+  input_var_lem b (number_lit r e m) i = claims_nothing E 0 _ (Places 1) (λ w. w.1) (lvalue_place (number_lit r e m) i)
+  input_var_lem b (sys_func_call r f k es) i = claims_nothing E 0 _ (Places 1) (λ w. w.1) (lvalue_place (sys_func_call r f k es) i)
+  input_var_lem b (binary r a o k c) i = claims_nothing E 0 _ (Places 1) (λ w. w.1) (lvalue_place (binary r a o k c) i)
+  input_var_lem b (unary r k e) i = claims_nothing E 0 _ (Places 1) (λ w. w.1) (lvalue_place (unary r k e) i)
+  input_var_lem b (inkey r) i = claims_nothing E 0 _ (Places 1) (λ w. w.1) (lvalue_place (inkey r) i)
 
   more_places : (n : ℕ) (xs ys : List Rec) → Places 1 xs → Places n ys → Places (suc n) (xs ++ ys)
   more_places n xs ys a b P =
@@ -266,23 +280,23 @@ module _ (E : List Entry) (few : Few E) (t : List ℕ) (base : ℕ) where
       seq E {d₁ = 0} {d₂ = 0} {W = (WholeExpr e × WholeExprs es) × (IsInput e × AllExprs IsInput es)} {A = Places 1} {B = Places (count es)} {C = Places (suc (count es))}
       (input_var_lem b e i) (input_vars_lem b es (Stmt.input_var R t base b e i)) (λ w. (w.0.0, w.1.0)) (λ w. (w.0.1, w.1.1)) (more_places (count es))
 
-  keys_step : (l : ℕ) (r : Range) (n : ℕ) (P Q : Pile) → Over n P Q → step E (rec 32 l r 0 n 0) Q ≡ given P
-  unfolding step wants_of
-  keys_step l r n P Q o = rw (taken_over n P Q o) refl
+  keyboard_step : (l : ℕ) (r : Range) (n : ℕ) (P Q : Pile) → Over n P Q → step E (rec 32 l r 0 n 0) Q ≡ given P
+  unfolding step effect_of
+  keyboard_step l r n P Q o = rw (taken_over n P Q o) refl
 
   prompt_step : (l : ℕ) (r : Range) (n : ℕ) (P Q : Pile) → Over n P Q → step E (rec 32 l r 1 n 0) (txt ∷ Q) ≡ given P
-  unfolding step wants_of taken
+  unfolding step effect_of taken
   prompt_step l r n P Q o = rw (taken_over n P Q o) refl
 
   file_step : (l : ℕ) (r : Range) (n : ℕ) (P Q : Pile) → Over n P Q → step E (rec 33 l r n 0 0) (num ∷ Q) ≡ given P
-  unfolding step wants_of taken
+  unfolding step effect_of taken
   file_step l r n P Q o = rw (taken_over n P Q o) refl
 
   source_code : {W : Type 0} (r : Range) (n : ℕ) (src : InputSource) (i j : Ideal) → Code E 0 i j W (Places n) → Code E 0 i (Stmt.input_source R t base r n src j) (W × WholeSource src) Fl
   source_code {W} r n (keyboard absent) i j a =
       with_ok E {W = W} {A = Fl} 0 (omega arith)
       (put E {d = 0} {W = W} {A = Places n} {C = Fl} a (omega arith) (rec 32 j.line r 0 n 0)
-      (λ xs u. flow_append (u []).flow (plain_one E (rec 32 j.line r 0 n 0) (u []).top [] refl (keys_step j.line r n [] (u []).top (u []).said)))) (λ w. w.0) (λ w xs u. u)
+      (λ xs u. flow_append (u []).flow (plain_one E (rec 32 j.line r 0 n 0) (u []).top [] refl (keyboard_step j.line r n [] (u []).top (u []).said)))) (λ w. w.0) (λ w xs u. u)
   source_code {W} r n (keyboard (given p)) i j a =
       let m = text_node R t base p j in
       let A : List Rec → Type 0 = λ xs. Reaches E xs [] (λ Q. (U : Pile) × (Q ≡ txt ∷ U) × Over n [] U) in
@@ -307,7 +321,7 @@ module _ (E : List Entry) (few : Few E) (t : List ℕ) (base : ℕ) where
 
   -- LET
   assign_step : (l : ℕ) (r : Range) (x y : Ty) → Proper x → Proper y → matches_type x y ≡ true → (c : ℕ) → Assigns x c → (P : Pile) → step E (rec c l r 0 0 0) (kind_of y ∷ plc x ∷ P) ≡ given P
-  unfolding step wants_of taken
+  unfolding step effect_of taken
   assign_step l r x y p q e c a P = rw (← same_kind x y p q e) (go x a)
     where
       go : (x : Ty) → Assigns x c → step E (rec c l r 0 0 0) (kind_of x ∷ plc x ∷ P) ≡ given P
@@ -368,11 +382,11 @@ module _ (E : List Entry) (few : Few E) (t : List ℕ) (base : ℕ) where
       (seq E {d₁ = 0} {d₂ = 0} {W = W} {A = Pla p.ty} {B = Pla q.ty} {C = A} (place_code E few t base a i) (place_code E few t base b p.state) (λ w. w.0) (λ w. w.1)
       (λ xs ys u v P. flow_append (u.flow P) (v.flow (plc p.ty ∷ P))))
       (fit_code (exact_matches p.ty q.ty) r q.state) (λ w. w) (λ w. tt) (λ xs ys u v. (λ P. rw (v.0, append-nil xs) (u P), v.1)))
-      (omega arith) (rec 2 j.line r 58 2 0) (λ xs u. flow_append (u.0 []) (solo E (rec 2 j.line r 58 2 0) (plc q.ty ∷ plc p.ty ∷ []) refl (swap_step j.line r p.ty q.ty u.1)))
+      (omega arith) (rec 2 j.line r 58 2 0) (λ xs u. flow_append (u.0 []) (untargeted E (rec 2 j.line r 58 2 0) (plc q.ty ∷ plc p.ty ∷ []) refl (swap_step j.line r p.ty q.ty u.1)))
 
   -- READ
   read_step : (l : ℕ) (r : Range) (x : Ty) (P : Pile) → step E (rec 30 l r 0 0 0) (plc x ∷ P) ≡ given P
-  unfolding step wants_of taken
+  unfolding step effect_of taken
   read_step l r x P = refl
 
   pub read_code : (es : Exprs) (i : Ideal) → Code E 0 i (Stmt.compile_read R t base es i) (WholeExprs es × AllExprs IsPlace es) Fl
@@ -388,27 +402,34 @@ module _ (E : List Entry) (few : Few E) (t : List ℕ) (base : ℕ) where
 
   -- a record that takes one number
   one_step : (c l : ℕ) (r : Range) → Takes1 c → (P : Pile) → step E (rec c l r 0 0 0) (num ∷ P) ≡ given P
-  unfolding step wants_of taken
+  unfolding step effect_of taken
   one_step c l r (inl e) P = rw e refl
   one_step c l r (inr (inl e)) P = rw e refl
   one_step c l r (inr (inr (inl e))) P = rw e refl
   one_step c l r (inr (inr (inr e))) P = rw e refl
 
   -- LOCATE
-  locate_part_lem : (c : ℕ) → Takes1 c → plain_call c ≡ true → (e : Opt Expr) (i : Ideal) → Code E 0 i (Stmt.locate_part R t base c e i) (IfGiven WholeExpr e) Fl
-  locate_part_lem c k p absent i = stay E i (Unit {0}) Fl (λ w. Flow.done)
-  locate_part_lem c k p (given e) i =
+  located : (c : ℕ) → Takes1 c → plain_call c ≡ true → (e : Expr) (i : Ideal) → Code E 0 i (R.emit (compile_typed R t base Real e i) c (expr_range e) 0 0 0) (WholeExpr e) Fl
+  located c k p e i =
       let j = compile_typed R t base Real e i in
       flat_of E few t base (turn E few t base (λ P. P) (λ P. num ∷ P) (λ P. P) (pushed E few t base Real tt e i) (omega arith) (rec c j.line (expr_range e) 0 0 0) p (one_step c j.line (expr_range e) k))
 
+  row_code : (e : Opt Expr) (i : Ideal) → Code E 0 i (Stmt.locate_row R t base e i) (IfGiven WholeExpr e) Fl
+  row_code absent i = stay E i (Unit {0}) Fl (λ w. Flow.done)
+  row_code (given e) i = located 36 (inl refl) refl e i
+
+  column_code : (e : Opt Expr) (i : Ideal) → Code E 0 i (Stmt.locate_column R t base e i) (IfGiven WholeExpr e) Fl
+  column_code absent i = stay E i (Unit {0}) Fl (λ w. Flow.done)
+  column_code (given e) i = located 37 (inr (inl refl)) refl e i
+
   pub locate_code : (a b : Opt Expr) (i : Ideal) → Code E 0 i (Stmt.compile_locate R t base a b i) (IfGiven WholeExpr a × IfGiven WholeExpr b) Fl
   unfolding Stmt.compile_locate
-  locate_code a b i = flat_two E few t base (locate_part_lem 36 (inl refl) refl a i) (locate_part_lem 37 (inr (inl refl)) refl b (Stmt.locate_part R t base 36 a i))
+  locate_code a b i = flat_two E few t base (row_code a i) (column_code b (Stmt.locate_row R t base a i))
 
   -- NEXT
   next_step : (l : ℕ) (r : Range) (a : ℕ) → Fl (rec 24 l r a 0 0 ∷ [])
-  unfolding step wants_of taken
-  next_step l r a = solo E (rec 24 l r a 0 0) [] refl refl
+  unfolding step effect_of taken
+  next_step l r a = untargeted E (rec 24 l r a 0 0) [] refl refl
 
   real_fit : (b : Bool) (r : Range) (i : Ideal) → Code E 0 i (pick b i (R.note i 5 r 1)) (Unit {0}) Nothing
   real_fit true r i = stay E i (Unit {0}) Nothing (λ w. refl)
@@ -420,7 +441,7 @@ module _ (E : List Entry) (few : Few E) (t : List ℕ) (base : ℕ) where
       let y = compile_sym R t base v i in
       let j = pick (matches_type y.ty Real) y.state (R.note y.state 5 v 1) in
       put E {d = 1} {W = Unit {0}} {A = Nothing} {C = Fl}
-      (seq E {d₁ = 1} {d₂ = 0} {W = Unit {0}} {A = Kno y.number y.ty} {B = Nothing} {C = Nothing} (sym_code E few t base v i) (real_fit (matches_type y.ty Real) v y.state) (λ w. w) (λ w. w) (λ xs ys u z. rw (u.none, z)))
+      (seq E {d₁ = 1} {d₂ = 0} {W = Unit {0}} {A = KnownHere y.number y.ty} {B = Nothing} {C = Nothing} (sym_code E few t base v i) (real_fit (matches_type y.ty Real) v y.state) (λ w. w) (λ w. w) (λ xs ys u z. rw (u.none, z)))
       (omega arith) (rec 24 j.line (Stmt.next_range n r v) (y.number + 1) 0 0) (λ xs u. rw u (next_step j.line (Stmt.next_range n r v) (y.number + 1)))
 
   next_each_lem : (n : ℕ) (r : Range) (vs : List (Opt Range)) (i : Ideal) → Code E 0 i (Stmt.next_each R t base n r vs i) (All Present vs) Fl
@@ -435,7 +456,7 @@ module _ (E : List Entry) (few : Few E) (t : List ℕ) (base : ℕ) where
 
   -- OPEN
   open_step_lem : (l : ℕ) (r : Range) (m b : ℕ) → step E (rec 34 l r m b 0) (replicate (1 + b) num ++ (txt ∷ [])) ≡ given []
-  unfolding step wants_of taken
+  unfolding step effect_of taken
   open_step_lem l r m b = rw (taken_append (numbers (1 + b)) (a_text ∷ []) (replicate (1 + b) num ++ (txt ∷ [])) (txt ∷ []) (taken_numbers (1 + b) (txt ∷ []))) refl
 
   len_notes_lem : (b : Bool) (r : Range) (i : Ideal) → Code E 0 i (pick b (R.note i 12 r 1) i) (Unit {0}) Nothing
@@ -459,7 +480,7 @@ module _ (E : List Entry) (few : Few E) (t : List ℕ) (base : ℕ) where
       n = compile_typed R t base Real o.value (Stmt.len_notes R t base m o.range j)
 
       go : (b : Bool) → eqb m 0 ≡ b → Code E 0 i n (W × (m ≡ 0 → ⊥) × WholeExpr o.value) (Turns E (λ P. P) (λ P. num ∷ num ∷ txt ∷ P)) → Code E 0 i (pick b n (R.emit n 34 r m 1 0)) (W × (m ≡ 0 → ⊥) × WholeExpr o.value) Fl
-      go true e c = void E 0 (W × (m ≡ 0 → ⊥) × WholeExpr o.value) Fl (λ w. w.1 (eqb-true m 0 e)) c
+      go true e c = claims_nothing E 0 (W × (m ≡ 0 → ⊥) × WholeExpr o.value) Fl (λ w. w.1 (eqb-true m 0 e)) c
       go false e c = closes E few t base (λ P. num ∷ num ∷ txt ∷ P) c (omega arith) (rec 34 n.line r m 1 0) refl (open_step_lem n.line r m 1)
 
   pub open_code : (r : Range) (f : Expr) (m : ℕ) (e : Expr) (o : Opt Len) (i : Ideal)
@@ -496,7 +517,7 @@ module _ (E : List Entry) (few : Few E) (t : List ℕ) (base : ℕ) where
   load_bytes_lem (more e es) i = none_two E few t base (load_byte_lem (Stmt.byte_of t base e) (expr_range e) i) (load_bytes_lem es (Stmt.load_byte R t base (Stmt.byte_of t base e) (expr_range e) i))
 
   load_step : (l : ℕ) (r : Range) (a b : ℕ) → Plain E (rec 35 l r a b 0 ∷ []) (num ∷ []) []
-  unfolding step wants_of taken
+  unfolding step effect_of taken
   load_step l r a b = plain_one E (rec 35 l r a b 0) (num ∷ []) [] refl refl
 
   load_node_lem : (r : Range) (es : Exprs) (i : Ideal) → Code E 0 i (Stmt.load_node R t base r es i) (Unit {0}) (λ xs. Plain E xs (num ∷ []) [])
@@ -528,12 +549,12 @@ module _ (E : List Entry) (few : Few E) (t : List ℕ) (base : ℕ) where
 
   -- PRINT
   none_step : (c l : ℕ) (r : Range) → (c ≡ 42) ⊎ (c ≡ 43) → Fl (rec c l r 0 0 0 ∷ [])
-  unfolding step wants_of taken
+  unfolding step effect_of taken
   none_step c l r (inl e) = plain_one E (rec c l r 0 0 0) [] [] (rw e refl) (rw e refl)
   none_step c l r (inr e) = plain_one E (rec c l r 0 0 0) [] [] (rw e refl) (rw e refl)
 
   show_step : (l : ℕ) (r : Range) (x : Ty) → Proper x → Plain E (rec (pick (matches_type x Real) 38 39) l r 0 0 0 ∷ []) (kind_of x ∷ []) []
-  unfolding step wants_of taken
+  unfolding step effect_of taken
   show_step l r Integer p = plain_one E (rec 38 l r 0 0 0) (num ∷ []) [] refl refl
   show_step l r Real p = plain_one E (rec 38 l r 0 0 0) (num ∷ []) [] refl refl
   show_step l r String p = plain_one E (rec 39 l r 0 0 0) (txt ∷ []) [] refl refl
@@ -542,8 +563,9 @@ module _ (E : List Entry) (few : Few E) (t : List ℕ) (base : ℕ) where
   value_code : (e : Expr) (i : Ideal) → Code E 0 i (Stmt.print_value R t base e i) (WholeExpr e) Fl
   value_code e i =
       let p = compile_expr R t base e i in
-      put E {d = 0} {A = Typ p.ty} {C = Fl} (expr_code E few t base e i) (omega arith) (rec (pick (matches_type p.ty Real) 38 39) p.state.line (expr_range e) 0 0 0)
-      (λ xs u. flow_append (u.flow []) (show_step p.state.line (expr_range e) p.ty u.proper))
+      one_of_two E {W = WholeExpr e} {A = Fl} (matches_type p.ty Real) (expr_range e) p.state 38 39 0 0 0
+      (put E {d = 0} {A = Typ p.ty} {C = Fl} (expr_code E few t base e i) (omega arith) (rec (pick (matches_type p.ty Real) 38 39) p.state.line (expr_range e) 0 0 0)
+      (λ xs u. flow_append (u.flow []) (show_step p.state.line (expr_range e) p.ty u.proper)))
 
   tab_step : (b : Bool) (l : ℕ) (r : Range) → Plain E (rec (pick b 40 41) l r 0 0 0 ∷ []) (num ∷ []) []
   tab_step true l r = plain_one E (rec 40 l r 0 0 0) (num ∷ []) [] refl (one_step 40 l r (inr (inr (inl refl))) [])
@@ -563,12 +585,13 @@ module _ (E : List Entry) (few : Few E) (t : List ℕ) (base : ℕ) where
       let m = compile_args R t base (wanted (signature_of k).args) 0 es j in
       let W = WholeExprs es × Filled es in
       let A : List Rec → Type 0 = λ xs. Clear (wanted (signature_of k).args) 0 (count es) → Turns E (λ P. P) (arg_pile (wanted (signature_of k).args) 0 (count es)) xs in
-      put E {d = 0} {W = W} {A = λ xs. Plain E xs [] (num ∷ [])} {C = Fl}
+      one_of_two E {W = W} {A = Fl} (eqb k spc) r m 40 41 0 0 0
+      (put E {d = 0} {W = W} {A = λ xs. Plain E xs [] (num ∷ [])} {C = Fl}
       (with_ok E {W = WholeExprs es} {A = λ xs. (count es ≤ 1) × A xs} 0 (omega arith)
       (seq E {d₁ = 0} {d₂ = 0} {W₁ = Unit {0}} {W = WholeExprs es} {A = λ xs. (xs ≡ []) × (count es ≤ 1)} {B = A} {C = λ xs. (count es ≤ 1) × A xs} (surplus_code E few t base 1 es i) (args_code E few t base (wanted (signature_of k).args) 0 es j) (λ w. tt) (λ w. w)
       (λ xs ys u v. (u.1, rw u.0 v)))
       (λ w. w.0) (λ w xs u. one_arg k (count es) (tab_or_spc k q) (omega (arith, u.0, filled_count es w.1)) xs u.1))
-      (omega arith) (rec (pick (eqb k spc) 40 41) m.line r 0 0 0) (λ xs u. flow_append u (tab_step (eqb k spc) m.line r))
+      (omega arith) (rec (pick (eqb k spc) 40 41) m.line r 0 0 0) (λ xs u. flow_append u (tab_step (eqb k spc) m.line r)))
 
   shown_code : (b : Bool) (e : Expr) (i : Ideal) → Stmt.is_tab_spc e ≡ b → Code E 0 i (pick b (Stmt.tab_call R t base e i) (Stmt.print_value R t base e i)) (WholeExpr e × FilledCall e) Fl
   shown_code false e i q = with_ok E {A = Fl} 0 (omega arith) (value_code e i) (λ w. w.0) (λ w xs u. u)
@@ -633,28 +656,28 @@ module _ (E : List Entry) (few : Few E) (t : List ℕ) (base : ℕ) where
 
   -- WRITE: to the screen, and to a file, whose number stays below until the last value
   screen_step : (l : ℕ) (r : Range) (x : Ty) (b : ℕ) → Proper x → Plain E (rec (pick (matches_type x Real) 44 45) l r 0 b 0 ∷ []) (kind_of x ∷ []) []
-  unfolding step wants_of taken
+  unfolding step effect_of taken
   screen_step l r Integer b p = plain_one E (rec 44 l r 0 b 0) (num ∷ []) [] refl refl
   screen_step l r Real b p = plain_one E (rec 44 l r 0 b 0) (num ∷ []) [] refl refl
   screen_step l r String b p = plain_one E (rec 45 l r 0 b 0) (txt ∷ []) [] refl refl
   screen_step l r Error b p = absurd p
 
   pop_step : (l : ℕ) (r : Range) (x : Ty) (P : Pile) → Proper x → Plain E (rec (pick (matches_type x Real) 46 47) l r 0 0 0 ∷ []) (kind_of x ∷ P) P
-  unfolding step wants_of taken
+  unfolding step effect_of taken
   pop_step l r Integer P p = plain_one E (rec 46 l r 0 0 0) (num ∷ P) P refl refl
   pop_step l r Real P p = plain_one E (rec 46 l r 0 0 0) (num ∷ P) P refl refl
   pop_step l r String P p = plain_one E (rec 47 l r 0 0 0) (txt ∷ P) P refl refl
   pop_step l r Error P p = absurd p
 
   middle_step : (l : ℕ) (r : Range) (x : Ty) → Proper x → Plain E (rec (pick (matches_type x Real) 44 45) l r 1 0 0 ∷ []) (kind_of x ∷ num ∷ []) (num ∷ [])
-  unfolding step wants_of taken
+  unfolding step effect_of taken
   middle_step l r Integer p = plain_one E (rec 44 l r 1 0 0) (num ∷ num ∷ []) (num ∷ []) refl refl
   middle_step l r Real p = plain_one E (rec 44 l r 1 0 0) (num ∷ num ∷ []) (num ∷ []) refl refl
   middle_step l r String p = plain_one E (rec 45 l r 1 0 0) (txt ∷ num ∷ []) (num ∷ []) refl refl
   middle_step l r Error p = absurd p
 
   last_step : (l : ℕ) (r : Range) (x : Ty) → Proper x → Plain E (rec (pick (matches_type x Real) 44 45) l r 1 1 0 ∷ []) (kind_of x ∷ num ∷ []) []
-  unfolding step wants_of taken
+  unfolding step effect_of taken
   last_step l r Integer p = plain_one E (rec 44 l r 1 1 0) (num ∷ num ∷ []) [] refl refl
   last_step l r Real p = plain_one E (rec 44 l r 1 1 0) (num ∷ num ∷ []) [] refl refl
   last_step l r String p = plain_one E (rec 45 l r 1 1 0) (txt ∷ num ∷ []) [] refl refl
@@ -681,19 +704,22 @@ module _ (E : List Entry) (few : Few E) (t : List ℕ) (base : ℕ) where
       written n true (inr e) l x = rw e (last_step l er p.ty x)
       written n false (inr e) l x = rw e (middle_step l er p.ty x)
 
-      go : (c last : Bool) → (n ≡ 0) ⊎ (n ≡ 1) → Code E 0 i (pick (either last c) (R.emit p.state (pick (matches_type p.ty Real) 44 45) er n (flag_of last) 0)
-          (R.emit (R.note p.state 11 er 2) (pick (matches_type p.ty Real) 46 47) er 0 0 0)) W (λ xs. Plain E xs (below n) (behind n last))
+      go : (c last : Bool) → (n ≡ 0) ⊎ (n ≡ 1) → Code E 0 i (pick (either last c) (Stmt.write_node R t base n last p.ty er p.state)
+          (Stmt.pop_node R t base p.ty er (R.note p.state value_dropped er 2))) W (λ xs. Plain E xs (below n) (behind n last))
       go c true q =
-          put E {d = 0} {W = W} {A = Typ p.ty} {C = λ xs. Plain E xs (below n) []} a (omega arith) (rec (pick (matches_type p.ty Real) 44 45) p.state.line er n 1 0)
-          (λ xs u. flow_append (u.flow (below n)) (written n true q p.state.line u.proper))
+          one_of_two E {W = W} {A = λ xs. Plain E xs (below n) []} (matches_type p.ty Real) er p.state 44 45 n 1 0
+          (put E {d = 0} {W = W} {A = Typ p.ty} {C = λ xs. Plain E xs (below n) []} a (omega arith) (rec (pick (matches_type p.ty Real) 44 45) p.state.line er n 1 0)
+          (λ xs u. flow_append (u.flow (below n)) (written n true q p.state.line u.proper)))
       go true false q =
-          put E {d = 0} {W = W} {A = Typ p.ty} {C = λ xs. Plain E xs (below n) (below n)} a (omega arith) (rec (pick (matches_type p.ty Real) 44 45) p.state.line er n 0 0)
-          (λ xs u. flow_append (u.flow (below n)) (written n false q p.state.line u.proper))
+          one_of_two E {W = W} {A = λ xs. Plain E xs (below n) (below n)} (matches_type p.ty Real) er p.state 44 45 n 0 0
+          (put E {d = 0} {W = W} {A = Typ p.ty} {C = λ xs. Plain E xs (below n) (below n)} a (omega arith) (rec (pick (matches_type p.ty Real) 44 45) p.state.line er n 0 0)
+          (λ xs u. flow_append (u.flow (below n)) (written n false q p.state.line u.proper)))
       go false false q =
-          put E {d = 0} {W = W} {A = Typ p.ty} {C = λ xs. Plain E xs (below n) (below n)}
+          one_of_two E {W = W} {A = λ xs. Plain E xs (below n) (below n)} (matches_type p.ty Real) er (R.note p.state value_dropped er 2) 46 47 0 0 0
+          (put E {d = 0} {W = W} {A = Typ p.ty} {C = λ xs. Plain E xs (below n) (below n)}
           (seq E {d₁ = 0} {d₂ = 0} {W₂ = Unit {0}} {W = W} {A = Typ p.ty} {B = Nothing} {C = Typ p.ty} a (warns E p.state 11 p.state.line er (Unit {0}) Nothing (λ w. refl)) (λ w. w) (λ w. tt) (λ xs ys u v. rw (v, append-nil xs) u))
           (omega arith) (rec (pick (matches_type p.ty Real) 46 47) p.state.line er 0 0 0)
-          (λ xs u. flow_append (u.flow (below n)) (pop_step p.state.line er p.ty (below n) u.proper))
+          (λ xs u. flow_append (u.flow (below n)) (pop_step p.state.line er p.ty (below n) u.proper)))
 
   abbrev left : ℕ → List WriteElement → Pile
   left n [] = below n

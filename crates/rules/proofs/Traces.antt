@@ -4,15 +4,15 @@ use Rattle.recorder.specs.Ideal.{Rec, no_rec, Entry}
 use Rattle.sheet.specs.Tree.{Opt, absent, given}
 use Rattle.rules.specs.Missing.{All}
 use Rattle.rules.specs.Piles.{Pile, step}
-use Rattle.rules.proofs.PileLaws.{and_then, pile_in, quiet_call, fixed_targets, is_jump_call, Jumps, jumps_append, Flow, Ahead}
+use Rattle.rules.proofs.PileLaws.{and_then, pile_in, empties_call, fixed_targets, is_jump_call, Jumps, jumps_append, Flow, Ahead}
 
-pub record Quiet (r : Rec) (Q : Pile) (rs : List Rec) : Type 0 where
-  pub quiet : quiet_call r.call ≡ true → Q ≡ []
+pub record EmptyBehind (r : Rec) (Q : Pile) (rs : List Rec) : Type 0 where
+  pub empty_behind : empties_call r.call ≡ true → Q ≡ []
   pub on : r.call ≡ 22 → Jumps r.a rs
 
 pub data Trace (E : List Entry) (Z : Rec → Type 0) : List Rec → Pile → Pile → Type 0 where
   done : {P : Pile} → Trace E Z [] P P
-  go : {r : Rec} {rs : List Rec} {P Q U : Pile} → step E r P ≡ given Q → Quiet r Q rs → Z r → Trace E Z rs Q U → Trace E Z (r ∷ rs) P U
+  go : {r : Rec} {rs : List Rec} {P Q U : Pile} → step E r P ≡ given Q → EmptyBehind r Q rs → Z r → Trace E Z rs Q U → Trace E Z (r ∷ rs) P U
 
 -- what a flow asks of a record by itself
 pub record Fixed (X Y : ℕ → Type 0) (r : Rec) : Type 0 where
@@ -21,7 +21,7 @@ pub record Fixed (X Y : ℕ → Type 0) (r : Rec) : Type 0 where
 
 pub flow_trace : {E : List Entry} {X Y : ℕ → Type 0} {xs : List Rec} {P Q : Pile} → Flow E X Y xs P Q → Trace E (Fixed X Y) xs P Q
 flow_trace Flow.done = done
-flow_trace (Flow.go s w a) = go s (record { quiet = w.quiet; on = w.on }) (record { fixed = w.fixed; body = w.body }) (flow_trace a)
+flow_trace (Flow.go s w a) = go s (record { empty_behind = w.empty_behind; on = w.on }) (record { fixed = w.fixed; body = w.body }) (flow_trace a)
 
 -- the pile before each record, and behind the last
 pub trace_at : {E : List Entry} {Z : Rec → Type 0} {xs : List Rec} {P Q : Pile} → Trace E Z xs P Q → (k : ℕ) → (U : Pile) × (pile_in E xs P k ≡ given U)
@@ -46,15 +46,15 @@ trace_step {E} {P = P} {U = U} {M = M} (go {r = r} {rs = rs} {Q = N} s q z a) ze
     none (x ∷ xs) P = refl
 trace_step {E} (go {rs = rs} s q z a) (suc k) h e f = trace_step a k (omega arith) (rw s at e) (rw s at f)
 
-pub trace_quiet : {E : List Entry} {Z : Rec → Type 0} {xs : List Rec} {P Q : Pile} → Trace E Z xs P Q → (k : ℕ) → k < length xs → quiet_call (get_or xs k no_rec).call ≡ true → pile_in E xs P (suc k) ≡ given []
+pub trace_empty : {E : List Entry} {Z : Rec → Type 0} {xs : List Rec} {P Q : Pile} → Trace E Z xs P Q → (k : ℕ) → k < length xs → empties_call (get_or xs k no_rec).call ≡ true → pile_in E xs P (suc k) ≡ given []
 unfolding pile_in
-trace_quiet done k h e = absurd (omega arith)
-trace_quiet {E} (go {rs = rs} {Q = N} s q z a) zero h e = rw (s, q.quiet e) (none rs)
+trace_empty done k h e = absurd (omega arith)
+trace_empty {E} (go {rs = rs} {Q = N} s q z a) zero h e = rw (s, q.empty_behind e) (none rs)
   where
     none : (xs : List Rec) → pile_in E xs [] 0 ≡ given []
     none [] = refl
     none (x ∷ xs) = refl
-trace_quiet {E} (go s q z a) (suc k) h e = rw s (trace_quiet a k (omega arith) e)
+trace_empty {E} (go s q z a) (suc k) h e = rw s (trace_empty a k (omega arith) e)
 
 pub trace_each : {E : List Entry} {Z : Rec → Type 0} {xs : List Rec} {P Q : Pile} → Trace E Z xs P Q → (k : ℕ) → k < length xs → Z (get_or xs k no_rec)
 trace_each done k h = absurd (omega arith)
@@ -100,7 +100,7 @@ pub zip_trace : {E : List Entry} {Z T : Rec → Type 0} {rs us : List Rec} {P Q 
 zip_trace none done = done
 zip_trace {E} {Z} {T} (more {r = r} {u = u} {rs = rs} {us = us} l z) (go {P = P} {Q = N} s q w a) =
     go (l.steps P ∙ s)
-    (record { quiet = λ e. q.quiet (rw l.call at e); on = λ e. let f : r.call ≡ 22 = rw l.call at e in subst (λ (n : ℕ). Jumps n us) (sym (l.count f)) (zip_jumps r.a z (q.on f)) })
+    (record { empty_behind = λ e. q.empty_behind (rw l.call at e); on = λ e. let f : r.call ≡ 22 = rw l.call at e in subst (λ (n : ℕ). Jumps n us) (sym (l.count f)) (zip_jumps r.a z (q.on f)) })
     (l.asked w) (zip_trace z a)
 
 pub zip_pile : {E : List Entry} {Z T : Rec → Type 0} {rs us : List Rec} → Zip (Alike E Z T) rs us → (P : Pile) (k : ℕ) → pile_in E us P k ≡ pile_in E rs P k
@@ -124,4 +124,4 @@ zip_call (more l z) (suc k) = zip_call z k
 
 pub trace_append : {E : List Entry} {Z : Rec → Type 0} {xs ys : List Rec} {P Q U : Pile} → Trace E Z xs P Q → Trace E Z ys Q U → Trace E Z (xs ++ ys) P U
 trace_append done b = b
-trace_append {ys = ys} (go {r = r} {rs = rs} s q z a) b = go s (record { quiet = q.quiet; on = λ e. jumps_append r.a rs ys (q.on e) }) z (trace_append a b)
+trace_append {ys = ys} (go {r = r} {rs = rs} s q z a) b = go s (record { empty_behind = q.empty_behind; on = λ e. jumps_append r.a rs ys (q.on e) }) z (trace_append a b)

@@ -1,9 +1,10 @@
 -- The end of a WRITE is never missing: every WRITE of an accepted sheet makes a call 44 or 45, and of these calls of the finished list
 -- the last alone has end 1. No other statement makes one.
 use Rattle.std.proofs.Common.{◌≡◌, ℕ, ◌+◌, ◌-◌, ◌≤◌, Bool, true, false, eqb, ltb, List, [], ◌∷◌, ◌++◌, length, sym, refl, ap, ◌∙◌, append_assoc, append-nil, arith, length-append}
+use Rattle.recorder.specs.Numbers.{unknown}
 use Rattle.recorder.specs.Word.{pick, either, flag_of}
 use Rattle.recorder.specs.declared.word.Range.{Range}
-use Rattle.recorder.specs.Recorder.{Recorder, unknown}
+use Rattle.recorder.specs.Recorder.{Recorder}
 use Rattle.recorder.specs.Ideal.{Rec, rec, Ideal, ideal, change, with_a, with_c, Search, missing, found, find_name, symbol_in, symbol_of}
 use Rattle.recorder.specs.Closing.{rules_r, rec_at, end_rec}
 use Rattle.sheet.specs.Tree.{Opt, absent, given, Expr, expr_range, WriteElement, Stmt, rem, op₀, op₁, op₂, op₃, draw, set, data_list, def, dim, field, for, go, if_then, if_else, input, assign, load, locate, next_of, on, open_file, print, read, restore, swap, system, while, write, Stmts, end, then, Target, ProgramLine, program_at}
@@ -22,7 +23,7 @@ use Rattle.rules.proofs.Kept
 use Rattle.rules.proofs.BlockPiles.{Some, FormedStmt, FormedStmts, stmt_code, stmts_code}
 use Rattle.rules.proofs.ProgramPiles.{Formed, lines_code, accepted_is, few_none}
 use Rattle.rules.proofs.SheetForm.{accepted_formed}
-use Rattle.rules.proofs.WriteCalls.{calls_append, silent_last, write_last, call_of, same_calls, same_change, Ahead, ahead_same, ahead_then, ahead_more, from_calls, from_behind, JumpAt, jump_here, jump_more, jump_still, jump_aimed, closed}
+use Rattle.rules.proofs.WriteCalls.{calls_append, no_write_last, write_last, call_of, same_calls, same_change, Ahead, ahead_same, ahead_then, ahead_more, from_calls, from_behind, JumpAt, jump_here, jump_more, jump_kept, jump_targeted, closed}
 
 -- the rules' recorder keeps the calls 44 and 45 that are there
 symbol_calls : (o : Search) (i : Ideal) (x n g : ℕ) → write_calls (symbol_in o i x n g).state.records ≡ write_calls i.records
@@ -36,7 +37,7 @@ same_with_c v r = refl
 kept : (t : List ℕ) (w : List WriteCall) → Kept.Keeps (rules_r t) (λ (i : Ideal). write_calls i.records ≡ w)
 unfolding symbol_of
 kept t w = record {
-  emit = λ i k r a b c h e. silent_last i.records (rec k i.line r a b c) h ∙ e;
+  emit = λ i k r a b c h e. no_write_last i.records (rec k i.line r a b c) h ∙ e;
   note = λ i k r v e. e;
   symbol = λ i x n g e. symbol_calls (find_name t i.entries x n g) i x n g ∙ e;
   datum = λ i x n q e. e;
@@ -93,10 +94,6 @@ record Made (i f : Ideal) (rs : List Rec) (ps : List Written) (W : Type 0) : Typ
   calls : write_calls f.records ≡ write_calls i.records ++ calls_of rs ps
   ends : W → All (Ends rs) ps
 
-write_pick : (b : Bool) (k l : ℕ) → is_write_call k ≡ true → is_write_call l ≡ true → is_write_call (pick b k l) ≡ true
-write_pick true k l e f = e
-write_pick false k l e f = f
-
 -- statements
 module _ (t : List ℕ) (base : ℕ) where
   abbrev R : Recorder Ideal
@@ -109,15 +106,23 @@ module _ (t : List ℕ) (base : ℕ) where
   value_calls_lem : (n : ℕ) (d : WriteElement) (last : Bool) (ty : Ty) (i : Ideal)
       → write_calls (write_value R t base n d last ty i).records ≡ write_calls i.records ++ pick (either last (eqb d.comma 1)) (write_call n (flag_of last) ∷ []) []
   unfolding write_value
-  value_calls_lem n d last ty i = go (either last (eqb d.comma 1))
+  value_calls_lem n d last ty i = go (either last (eqb d.comma 1)) (matches_type ty Real)
     where
-      m : Bool
-      m = matches_type ty Real
+      er : Range
+      er = expr_range d.datum
 
-      go : (b : Bool) → write_calls (pick b (R.emit i (pick m 44 45) (expr_range d.datum) n (flag_of last) 0) (R.emit (R.note i 11 (expr_range d.datum) 2) (pick m 46 47) (expr_range d.datum) 0 0 0)).records
+      writes : (k : ℕ) → is_write_call k ≡ true → write_calls (R.emit i k er n (flag_of last) 0).records ≡ write_calls i.records ++ (write_call n (flag_of last) ∷ [])
+      writes k e = write_last i.records (rec k i.line er n (flag_of last) 0) e
+
+      pops : (k : ℕ) → is_write_call k ≡ false → write_calls (R.emit i k er 0 0 0).records ≡ write_calls i.records ++ []
+      pops k e = no_write_last i.records (rec k i.line er 0 0 0) e ∙ sym (append-nil (write_calls i.records))
+
+      go : (b m : Bool) → write_calls (pick b (pick m (R.emit i 44 er n (flag_of last) 0) (R.emit i 45 er n (flag_of last) 0)) (pick m (R.emit (R.note i 11 er 2) 46 er 0 0 0) (R.emit (R.note i 11 er 2) 47 er 0 0 0))).records
           ≡ write_calls i.records ++ pick b (write_call n (flag_of last) ∷ []) []
-      go true = write_last i.records (rec (pick m 44 45) i.line (expr_range d.datum) n (flag_of last) 0) (write_pick m 44 45 refl refl)
-      go false = silent_last i.records (rec (pick m 46 47) i.line (expr_range d.datum) 0 0 0) (Kept.other_pick m 46 47 refl refl) ∙ sym (append-nil (write_calls i.records))
+      go true true = writes 44 refl
+      go true false = writes 45 refl
+      go false true = pops 46 refl
+      go false false = pops 47 refl
 
   each_calls : (n : ℕ) (ds : List WriteElement) (i : Ideal) → write_calls (write_each R t base n ds i).records ≡ write_calls i.records ++ value_calls n ds
   unfolding write_each value_calls
@@ -140,7 +145,7 @@ module _ (t : List ℕ) (base : ℕ) where
   pub write_calls_lem : (r : Range) (f : Opt Expr) (ds : List WriteElement) (i : Ideal)
       → write_calls (compile_stmt R t base (write r f ds) i).records ≡ write_calls i.records ++ value_calls (file_flag f) ds
   unfolding compile_stmt
-  write_calls_lem r absent ds i = let u = write_each R t base 0 ds i in silent_last u.records (rec 43 u.line r 0 0 0) refl ∙ each_calls 0 ds i
+  write_calls_lem r absent ds i = let u = write_each R t base 0 ds i in no_write_last u.records (rec 43 u.line r 0 0 0) refl ∙ each_calls 0 ds i
   write_calls_lem r (given e) ds i =
       each_calls 1 ds (compile_typed R t base Real e i)
       ∙ behind (value_calls 1 ds) (Kept.keep_typed (keeps i) t base {s = i} Real e refl)
@@ -175,7 +180,7 @@ module _ (t : List ℕ) (base : ℕ) where
   if_calls : (r : Range) (e : Expr) (i : Ideal) → write_calls (if_jump R t base r (compile_typed R t base Real e i)).records ≡ write_calls i.records
   if_calls r e i =
       let u = compile_typed R t base Real e i in
-      silent_last u.records (rec 19 u.line r unknown 0 0) refl ∙ Kept.keep_typed (keeps i) t base {s = i} Real e refl
+      no_write_last u.records (rec 19 u.line r unknown 0 0) refl ∙ Kept.keep_typed (keeps i) t base {s = i} Real e refl
 
   stmts_jump : (xs : Stmts) (i : Ideal) (k : ℕ) → JumpAt i.records k → JumpAt (compile_stmts R t base xs i).records k
   stmts_jump xs i k h =
@@ -207,10 +212,10 @@ module _ (t : List ℕ) (base : ℕ) where
         let j = if_jump R t base r u in
         let v = compile_stmts R t base xs j in
         let first = stmts_jump xs j (length u.records) (jump_here u.records (rec 19 u.line r unknown 0 0) refl) in
-        let aimed = jump_aimed v.records (length v.records) (length u.records) first in
-        let m = stmts_made xs j rs (ahead_then (ahead_same aimed) h) in
+        let targeted = jump_targeted v.records (length v.records) (length u.records) first in
+        let m = stmts_made xs j rs (ahead_then (ahead_same targeted) h) in
         record {
-          calls = same_calls v.records (change (with_a (length v.records)) v.records (length u.records)) aimed ∙ m.calls ∙ behind (calls_of rs (each_stmts t (write_of t) base xs j)) (if_calls r e i);
+          calls = same_calls v.records (change (with_a (length v.records)) v.records (length u.records)) targeted ∙ m.calls ∙ behind (calls_of rs (each_stmts t (write_of t) base xs j)) (if_calls r e i);
           ends = m.ends;
         }
     stmt_made (if_else r e xs ys) i rs h =
@@ -222,16 +227,16 @@ module _ (t : List ℕ) (base : ℕ) where
         let g = end_here R t base (length u.records) k in
         let z = compile_stmts R t base ys g in
         let first = stmts_jump xs j (length u.records) (jump_here u.records (rec 19 u.line r unknown 0 0) refl) in
-        let second = jump_still k.records (length k.records) (length u.records) (length v.records) (jump_here v.records over refl) in
-        let aimed = jump_aimed k.records (length k.records) (length u.records) (jump_more k.records v.records (over ∷ []) (length u.records) refl first) in
-        let aimed₂ = jump_aimed z.records (length z.records) (length v.records) (stmts_jump ys g (length v.records) second) in
-        let b = ahead_then (ahead_same aimed₂) h in
-        let m = stmts_made xs j rs (ahead_then (ahead_more k.records v.records (over ∷ []) refl) (ahead_then (ahead_same aimed) (ahead_then (stmts_ahead ys g) b))) in
+        let second = jump_kept k.records (length k.records) (length u.records) (length v.records) (jump_here v.records over refl) in
+        let targeted = jump_targeted k.records (length k.records) (length u.records) (jump_more k.records v.records (over ∷ []) (length u.records) refl first) in
+        let targeted₂ = jump_targeted z.records (length z.records) (length v.records) (stmts_jump ys g (length v.records) second) in
+        let b = ahead_then (ahead_same targeted₂) h in
+        let m = stmts_made xs j rs (ahead_then (ahead_more k.records v.records (over ∷ []) refl) (ahead_then (ahead_same targeted) (ahead_then (stmts_ahead ys g) b))) in
         let n = stmts_made ys g rs b in
         record {
-          calls = same_calls z.records (change (with_a (length z.records)) z.records (length v.records)) aimed₂ ∙ n.calls
+          calls = same_calls z.records (change (with_a (length z.records)) z.records (length v.records)) targeted₂ ∙ n.calls
               ∙ behind (calls_of rs (each_stmts t (write_of t) base ys g))
-              (same_calls k.records g.records aimed ∙ silent_last v.records over refl ∙ m.calls ∙ behind (calls_of rs (each_stmts t (write_of t) base xs j)) (if_calls r e i))
+              (same_calls k.records g.records targeted ∙ no_write_last v.records over refl ∙ m.calls ∙ behind (calls_of rs (each_stmts t (write_of t) base xs j)) (if_calls r e i))
               ∙ both_calls (write_calls i.records) rs (each_stmts t (write_of t) base xs j) (each_stmts t (write_of t) base ys g);
           ends = λ w. all_append (Ends rs) (each_stmts t (write_of t) base xs j) (each_stmts t (write_of t) base ys g) (m.ends w.0) (n.ends w.1);
         }
@@ -301,5 +306,5 @@ ends_there s t L e =
     let m = lines_made t (program_at s) c₀ rs (ahead_then (ahead_same z.same) (ahead_more rs z.list (end_rec z.line ∷ []) z.whole)) in
     record {
       ends = m.ends (accepted_formed s t L.work (accepted_is s t L e).0);
-      calls = ap write_calls z.whole ∙ silent_last z.list (end_rec z.line) refl ∙ same_calls c.state.records z.list z.same ∙ m.calls;
+      calls = ap write_calls z.whole ∙ no_write_last z.list (end_rec z.line) refl ∙ same_calls c.state.records z.list z.same ∙ m.calls;
     }

@@ -27,19 +27,19 @@ calls_append (r ∷ xs) ys = go (is_write_call r.call) (calls_append xs ys)
     go false e = e
 
 -- a record of another call
-abbrev pub Silent : Rec → Type 0
-Silent r = is_write_call r.call ≡ false
+abbrev pub NoWrite : Rec → Type 0
+NoWrite r = is_write_call r.call ≡ false
 
-silent_call : (r : Rec) (k : ℕ) → is_write_call k ≡ false → r.call ≡ k → Silent r
-silent_call r k h e = rw e h
+no_write_call : (r : Rec) (k : ℕ) → is_write_call k ≡ false → r.call ≡ k → NoWrite r
+no_write_call r k h e = rw e h
 
-silent_one : (r : Rec) → Silent r → write_calls (r ∷ []) ≡ []
+no_write_one : (r : Rec) → NoWrite r → write_calls (r ∷ []) ≡ []
 unfolding write_calls
-silent_one r h = rw h refl
+no_write_one r h = rw h refl
 
 -- the last record put on
-pub silent_last : (rs : List Rec) (r : Rec) → Silent r → write_calls (rs ++ (r ∷ [])) ≡ write_calls rs
-silent_last rs r h = calls_append rs (r ∷ []) ∙ ap (λ (z : List WriteCall). write_calls rs ++ z) (silent_one r h) ∙ append-nil (write_calls rs)
+pub no_write_last : (rs : List Rec) (r : Rec) → NoWrite r → write_calls (rs ++ (r ∷ [])) ≡ write_calls rs
+no_write_last rs r h = calls_append rs (r ∷ []) ∙ ap (λ (z : List WriteCall). write_calls rs ++ z) (no_write_one r h) ∙ append-nil (write_calls rs)
 
 pub write_last : (rs : List Rec) (r : Rec) → is_write_call r.call ≡ true → write_calls (rs ++ (r ∷ [])) ≡ write_calls rs ++ (write_call r.a r.b ∷ [])
 unfolding write_calls
@@ -55,8 +55,8 @@ call_at rs k = call_of (rec_at rs k)
 one_first : (r u : Rec) (rs us : List Rec) → call_of u ≡ call_of r → write_calls us ≡ write_calls rs → write_calls (u ∷ us) ≡ write_calls (r ∷ rs)
 one_first r u rs us e f = calls_append (u ∷ []) us ∙ rw (e, f) (sym (calls_append (r ∷ []) rs))
 
-silent_same : (r u : Rec) → Silent r → Silent u → call_of u ≡ call_of r
-silent_same r u h k = silent_one u k ∙ sym (silent_one r h)
+no_write_same : (r u : Rec) → NoWrite r → NoWrite u → call_of u ≡ call_of r
+no_write_same r u h k = no_write_one u k ∙ sym (no_write_one r h)
 
 -- a list that has the same calls at the same addresses
 pub record Same (rs us : List Rec) : Type 0 where
@@ -126,39 +126,39 @@ from_behind (x ∷ xs) ys = from_second x (xs ++ ys) (length xs) (length ys) ∙
 
 -- a jump stands at an address: it stays there, and its target may change
 abbrev pub JumpAt : List Rec → ℕ → Type 0
-JumpAt rs k = (k < length rs) × Silent (rec_at rs k)
+JumpAt rs k = (k < length rs) × NoWrite (rec_at rs k)
 
-pub jump_here : (rs : List Rec) (r : Rec) → Silent r → JumpAt (rs ++ (r ∷ [])) (length rs)
+pub jump_here : (rs : List Rec) (r : Rec) → NoWrite r → JumpAt (rs ++ (r ∷ [])) (length rs)
 jump_here rs r h = (omega (arith, length-append rs (r ∷ [])), rw (get_or-append_seam rs r [] no_rec) h)
 
 pub jump_more : (rs xs ys : List Rec) (k : ℕ) → rs ≡ xs ++ ys → JumpAt xs k → JumpAt rs k
 jump_more rs xs ys k e h = rw e (omega (arith, h.0, length-append xs ys), rw (at_front xs ys k h.0) h.1)
 
-still_silent : (g : Rec → Rec) → ((r : Rec) → Silent r → Silent (g r)) → (rs : List Rec) (k j : ℕ) → Silent (rec_at rs j) → Silent (rec_at (change g rs k) j)
+kept_no_write : (g : Rec → Rec) → ((r : Rec) → NoWrite r → NoWrite (g r)) → (rs : List Rec) (k j : ℕ) → NoWrite (rec_at rs j) → NoWrite (rec_at (change g rs k) j)
 unfolding change
-still_silent g q [] k j h = h
-still_silent g q (r ∷ rs) zero zero h = q r h
-still_silent g q (r ∷ rs) zero (suc j) h = h
-still_silent g q (r ∷ rs) (suc k) zero h = h
-still_silent g q (r ∷ rs) (suc k) (suc j) h = still_silent g q rs k j h
+kept_no_write g q [] k j h = h
+kept_no_write g q (r ∷ rs) zero zero h = q r h
+kept_no_write g q (r ∷ rs) zero (suc j) h = h
+kept_no_write g q (r ∷ rs) (suc k) zero h = h
+kept_no_write g q (r ∷ rs) (suc k) (suc j) h = kept_no_write g q rs k j h
 
-pub jump_still : (rs : List Rec) (v k j : ℕ) → JumpAt rs j → JumpAt (change (with_a v) rs k) j
-jump_still rs v k j h = (omega (arith, h.0, change_length (with_a v) rs k), still_silent (with_a v) (λ r e. e) rs k j h.1)
+pub jump_kept : (rs : List Rec) (v k j : ℕ) → JumpAt rs j → JumpAt (change (with_a v) rs k) j
+jump_kept rs v k j h = (omega (arith, h.0, change_length (with_a v) rs k), kept_no_write (with_a v) (λ r e. e) rs k j h.1)
 
-silent_change : (g : Rec → Rec) → ((r : Rec) → Silent r → Silent (g r)) → (rs : List Rec) (k : ℕ) → Silent (rec_at rs k) → Same rs (change g rs k)
-silent_change g q rs k h = same_change g rs k (silent_same (rec_at rs k) (g (rec_at rs k)) h (q (rec_at rs k) h))
+no_write_change : (g : Rec → Rec) → ((r : Rec) → NoWrite r → NoWrite (g r)) → (rs : List Rec) (k : ℕ) → NoWrite (rec_at rs k) → Same rs (change g rs k)
+no_write_change g q rs k h = same_change g rs k (no_write_same (rec_at rs k) (g (rec_at rs k)) h (q (rec_at rs k) h))
 
-pub jump_aimed : (rs : List Rec) (v k : ℕ) → JumpAt rs k → Same rs (change (with_a v) rs k)
-jump_aimed rs v k h = silent_change (with_a v) (λ r e. e) rs k h.1
+pub jump_targeted : (rs : List Rec) (v k : ℕ) → JumpAt rs k → Same rs (change (with_a v) rs k)
+jump_targeted rs v k h = no_write_change (with_a v) (λ r e. e) rs k h.1
 
 -- closing up
 same_each : (g : Rec → Rec) → ((r : Rec) → call_of (g r) ≡ call_of r) → (rs : List Rec) → Same rs (each g rs)
 same_each g q [] = same_refl []
 same_each g q (r ∷ rs) = same_cons (q r) (same_each g q rs)
 
--- a record that waits is silent and keeps its call
-waiting_same : (w : Bool) (r u : Rec) → u.call ≡ r.call → (w ≡ true → Silent r) → call_of (pick w u r) ≡ call_of r
-waiting_same true r u e h = silent_same r u (h refl) (rw e (h refl))
+-- a record that waits is no call 44 or 45 and keeps its call
+waiting_same : (w : Bool) (r u : Rec) → u.call ≡ r.call → (w ≡ true → NoWrite r) → call_of (pick w u r) ≡ call_of r
+waiting_same true r u e h = no_write_same r u (h refl) (rw e (h refl))
 waiting_same false r u e h = refl
 
 settled_call : (o : Search) (r : Rec) → (settle_rec o r).call ≡ r.call
@@ -179,33 +179,33 @@ unfolding close_whiles
 while_same [] k = same_refl []
 while_same (r ∷ rs) k =
     let o = end_from rs 0 (suc k) in
-    same_cons (waiting_same (is_while r) r (end_at o r) (end_call_same o r) (λ e. silent_call r 25 refl (eqb-true r.call 25 e))) (while_same rs (suc k))
+    same_cons (waiting_same (is_while r) r (end_at o r) (end_call_same o r) (λ e. no_write_call r 25 refl (eqb-true r.call 25 e))) (while_same rs (suc k))
 
--- a list made of another by changes of silent records
-record Quieter (rs us : List Rec) : Type 0 where
+-- a list made of another by changes of records that are no call 44 or 45
+record NoWriteChanged (rs us : List Rec) : Type 0 where
   same : Same rs us
-  silent : (j : ℕ) → Silent (rec_at rs j) → Silent (rec_at us j)
+  no_write : (j : ℕ) → NoWrite (rec_at rs j) → NoWrite (rec_at us j)
 
-unchanged : (rs : List Rec) → Quieter rs rs
-unchanged rs = record { same = same_refl rs; silent = λ j h. h }
+unchanged : (rs : List Rec) → NoWriteChanged rs rs
+unchanged rs = record { same = same_refl rs; no_write = λ j h. h }
 
-changed : (g : Rec → Rec) → ((r : Rec) → Silent r → Silent (g r)) → {rs us : List Rec} → Quieter rs us → (k : ℕ) → Silent (rec_at rs k) → Quieter rs (change g us k)
+changed : (g : Rec → Rec) → ((r : Rec) → NoWrite r → NoWrite (g r)) → {rs us : List Rec} → NoWriteChanged rs us → (k : ℕ) → NoWrite (rec_at rs k) → NoWriteChanged rs (change g us k)
 changed g q {us = us} a k h = record {
-  same = same_then a.same (silent_change g q us k (a.silent k h));
-  silent = λ j e. still_silent g q us k j (a.silent j e);
+  same = same_then a.same (no_write_change g q us k (a.no_write k h));
+  no_write = λ j e. kept_no_write g q us k j (a.no_write j e);
 }
 
-end_silent : (r : Rec) → is_end r ≡ true → Silent r
-end_silent r e = go (end_call r e)
+end_no_write : (r : Rec) → is_end r ≡ true → NoWrite r
+end_no_write r e = go (end_call r e)
   where
-    go : (r.call ≡ 3) ⊎ (r.call ≡ 5) → Silent r
-    go (inl q) = silent_call r 3 refl q
-    go (inr q) = silent_call r 5 refl q
+    go : (r.call ≡ 3) ⊎ (r.call ≡ 5) → NoWrite r
+    go (inl q) = no_write_call r 3 refl q
+    go (inr q) = no_write_call r 5 refl q
 
-whole_silent : (r : Rec) → Silent r → Silent (whole_end r)
-whole_silent r h = go (eqb r.call 3)
+whole_no_write : (r : Rec) → NoWrite r → NoWrite (whole_end r)
+whole_no_write r h = go (eqb r.call 3)
   where
-    go : (b : Bool) → Silent (pick b (rec 3 r.line r.range (round_up r.a r.b).e (round_up r.a r.b).m 0) r)
+    go : (b : Bool) → NoWrite (pick b (rec 3 r.line r.range (round_up r.a r.b).e (round_up r.a r.b).m 0) r)
     go true = refl
     go false = h
 
@@ -213,16 +213,16 @@ delay_same : (rs : List Rec) (k : ℕ) → Same rs (delay_from rs k)
 unfolding delay_from
 delay_same rs k = go (is_delay rs k) refl (is_stepped_delay rs k) refl
   where
-    begun : is_start (rec_at rs k) ≡ true → is_end (rec_at rs (k + 1)) ≡ true → Quieter rs (change whole_end (change no_op rs k) (k + 1))
+    begun : is_start (rec_at rs k) ≡ true → is_end (rec_at rs (k + 1)) ≡ true → NoWriteChanged rs (change whole_end (change no_op rs k) (k + 1))
     begun s e =
-        changed whole_end whole_silent (changed no_op (λ r h. refl) (unchanged rs) k (silent_call (rec_at rs k) 3 refl (start_call (rec_at rs k) s)))
-        (k + 1) (end_silent (rec_at rs (k + 1)) e)
+        changed whole_end whole_no_write (changed no_op (λ r h. refl) (unchanged rs) k (no_write_call (rec_at rs k) 3 refl (start_call (rec_at rs k) s)))
+        (k + 1) (end_no_write (rec_at rs (k + 1)) e)
 
-    for_silent : (n : ℕ) (r : Rec) → is_for n r ≡ true → Silent r
-    for_silent n r e = silent_call r 23 refl (for_call n r e).0
+    for_no_write : (n : ℕ) (r : Rec) → is_for n r ≡ true → NoWrite r
+    for_no_write n r e = no_write_call r 23 refl (for_call n r e).0
 
-    next_silent : (f r : Rec) → is_next_of f r ≡ true → Silent r
-    next_silent f r e = silent_call r 24 refl (next_call f r e)
+    next_no_write : (f r : Rec) → is_next_of f r ≡ true → NoWrite r
+    next_no_write f r e = no_write_call r 24 refl (next_call f r e)
 
     plain : is_delay rs k ≡ true → Same rs (delayed rs k)
     plain e =
@@ -233,7 +233,7 @@ delay_same rs k = go (is_delay rs k) refl (is_stepped_delay rs k) refl
         let e₁ = both_right A (both B (both C D)) e in
         let e₂ = both_right B (both C D) e₁ in
         (changed no_op (λ r h. refl) (changed sleep (λ r h. refl) (begun (both_left A (both B (both C D)) e) (both_left B (both C D) e₁))
-        (k + 2) (for_silent 0 (rec_at rs (k + 2)) (both_left C D e₂))) (k + 3) (next_silent (rec_at rs (k + 2)) (rec_at rs (k + 3)) (both_right C D e₂))).same
+        (k + 2) (for_no_write 0 (rec_at rs (k + 2)) (both_left C D e₂))) (k + 3) (next_no_write (rec_at rs (k + 2)) (rec_at rs (k + 3)) (both_right C D e₂))).same
 
     stepped : is_stepped_delay rs k ≡ true → Same rs (stepped_delayed rs k)
     stepped e =
@@ -246,8 +246,8 @@ delay_same rs k = go (is_delay rs k) refl (is_stepped_delay rs k) refl
         let e₂ = both_right B (both C (both D F)) e₁ in
         let e₃ = both_right C (both D F) e₂ in
         (changed no_op (λ r h. refl) (changed sleep (λ r h. refl) (changed no_op (λ r h. refl) (begun (both_left A (both B (both C (both D F))) e) (both_left B (both C (both D F)) e₁))
-        (k + 2) (silent_call (rec_at rs (k + 2)) 3 refl (one_call (rec_at rs (k + 2)) (both_left C (both D F) e₂)))) (k + 3) (for_silent 1 (rec_at rs (k + 3)) (both_left D F e₃)))
-        (k + 4) (next_silent (rec_at rs (k + 3)) (rec_at rs (k + 4)) (both_right D F e₃))).same
+        (k + 2) (no_write_call (rec_at rs (k + 2)) 3 refl (one_call (rec_at rs (k + 2)) (both_left C (both D F) e₂)))) (k + 3) (for_no_write 1 (rec_at rs (k + 3)) (both_left D F e₃)))
+        (k + 4) (next_no_write (rec_at rs (k + 3)) (rec_at rs (k + 4)) (both_right D F e₃))).same
 
     go : (a : Bool) → is_delay rs k ≡ a → (b : Bool) → is_stepped_delay rs k ≡ b → Same rs (pick a (delayed rs k) (pick b (stepped_delayed rs k) rs))
     go true e b f = plain e

@@ -1,6 +1,8 @@
 -- The third demand: on every accepted sheet with no missing part and no error note there is exactly one way to put a pile
 -- before each instruction of the finished list so that everything fits.
 use Rattle.std.specs.Prelude.{◌≡◌, ℕ, zero, suc, ◌+◌, ◌-◌, ◌<◌, Bool, true, false, List, [], ◌∷◌, length, ◌==◌, nat_le, nat_lt, slice_index_or}
+use Rattle.recorder.specs.StmtKind.{return_stmt}
+use Rattle.recorder.specs.Calls.{jz_call, gosub_call, on_call, for_call, next_call, while_call, def_call, end_call, warning_note}
 use Rattle.recorder.specs.Word.{pick, both, either}
 use Rattle.recorder.specs.Ideal.{Rec, Note, Entry, Ideal}
 use Rattle.recorder.specs.Closing.{is_op, is_wend, is_while, rules_r, rec_at}
@@ -14,9 +16,9 @@ use Rattle.rules.specs.Piles.{num, Pile, step}
 -- "A target (19 to 21's, 25's two, 26's end)"
 abbrev pub targets : Rec → List ℕ
 targets r =
-    pick (both (nat_le 19 r.call) (nat_le r.call 21)) (r.a ∷ [])
-    (pick (r.call == 25) (r.a ∷ r.b ∷ [])
-    (pick (r.call == 26) (r.c ∷ []) []))
+    pick (both (nat_le jz_call r.call) (nat_le r.call gosub_call)) (r.a ∷ [])
+    (pick (r.call == while_call) (r.a ∷ r.b ∷ [])
+    (pick (r.call == def_call) (r.c ∷ []) []))
 
 abbrev pub is_in : ℕ → List ℕ → Bool
 is_in j [] = false
@@ -34,19 +36,19 @@ module _ (rs : List Rec) where
 
   -- "an ON's jumps and the record behind them also from the ON"
   abbrev pub from_on : ℕ → ℕ → Bool
-  from_on k j = both (call_at k == 22) (both (nat_lt k j) (nat_le j (k + (rec_at rs k).a + 1)))
+  from_on k j = both (call_at k == on_call) (both (nat_lt k j) (nat_le j (k + (rec_at rs k).a + 1)))
 
   -- "the record behind a FOR from every NEXT"
   abbrev pub from_next : ℕ → ℕ → Bool
-  from_next k j = both (call_at k == 24) (both (nat_lt 0 j) (call_at (j - 1) == 23))
+  from_next k j = both (call_at k == next_call) (both (nat_lt 0 j) (call_at (j - 1) == for_call))
 
-  -- "behind a GOSUB or its ON's last jump from every RETURN" (statement 53): a GOSUB that is an ON's jump but not its last is
+  -- "behind a GOSUB or its ON's last jump from every RETURN": a GOSUB that is an ON's jump but not its last is
   -- not what stands before j
   abbrev pub inside_on : ℕ → Bool
-  inside_on g = some_below (λ i. both (call_at i == 22) (nat_lt g (i + (rec_at rs i).a))) g
+  inside_on g = some_below (λ i. both (call_at i == on_call) (nat_lt g (i + (rec_at rs i).a))) g
 
   abbrev pub from_return : ℕ → ℕ → Bool
-  from_return k j = both (is_op 53 (rec_at rs k)) (both (nat_lt 0 j) (both (call_at (j - 1) == 21) (pick (inside_on (j - 1)) false true)))
+  from_return k j = both (is_op return_stmt (rec_at rs k)) (both (nat_lt 0 j) (both (call_at (j - 1) == gosub_call) (pick (inside_on (j - 1)) false true)))
 
   -- "a WHILE's condition from every WEND"
   abbrev pub from_wend : ℕ → ℕ → Bool
@@ -89,10 +91,10 @@ pub record Orderly (addrs : List ℕ) (rs : List Rec) (ps : List Pile) : Type 0 
   pub statements : All (λ k. (k < length rs) × (pile_at ps k ≡ [])) addrs
   -- "a function's body makes one number out of an empty pile and nothing besides": from behind a 26 up to the 27 just
   -- before that 26's end, which stands behind the 26; all of it in the list
-  pub body_begins : (k : ℕ) → k < length rs → (rec_at rs k).call ≡ 26 → (k + 1 < length rs) × (pile_at ps (k + 1) ≡ [])
-  pub body_closes : (k : ℕ) → k < length rs → (rec_at rs k).call ≡ 26
-      → (k < (rec_at rs k).c - 1) × ((rec_at rs k).c - 1 < length rs) × ((rec_at rs ((rec_at rs k).c - 1)).call ≡ 27)
-  pub body_ends : (k : ℕ) → k < length rs → (rec_at rs k).call ≡ 26 → pile_at ps ((rec_at rs k).c - 1) ≡ num ∷ []
+  pub body_begins : (k : ℕ) → k < length rs → (rec_at rs k).call ≡ def_call → (k + 1 < length rs) × (pile_at ps (k + 1) ≡ [])
+  pub body_closes : (k : ℕ) → k < length rs → (rec_at rs k).call ≡ def_call
+      → (k < (rec_at rs k).c - 1) × ((rec_at rs k).c - 1 < length rs) × ((rec_at rs ((rec_at rs k).c - 1)).call ≡ end_call)
+  pub body_ends : (k : ℕ) → k < length rs → (rec_at rs k).call ≡ def_call → pile_at ps ((rec_at rs k).c - 1) ≡ num ∷ []
   -- "every target is an instruction of the list where the pile is empty"
   pub on_targets : (k : ℕ) → k < length rs → All (λ v. (v < length rs) × (pile_at ps v ≡ [])) (targets (rec_at rs k))
 
@@ -103,9 +105,10 @@ pub record ExactlyOne (addrs : List ℕ) (es : List Entry) (rs : List Rec) : Typ
   pub orderly : Orderly addrs rs piles
   pub only : (qs : List Pile) → Fits es rs qs → qs ≡ piles
 
--- "no error note": every note is a warning
+-- "no error note": every note is a warning. That is "no note is an error", since the rules write no severity but 1 and 2 (`severities`
+-- and `no_error` in crates/bounds/proofs/Finished.antt).
 abbrev pub NoError : List Note → Type 0
-NoError ns = All (λ (n : Note). n.severity ≡ 2) ns
+NoError ns = All (λ (n : Note). n.severity ≡ warning_note) ns
 
 -- "Take any sheet, text and lent memory that document 01 accepts, with no missing part and no error note."
 abbrev pub Demand : Type 0

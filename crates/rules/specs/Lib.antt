@@ -1,6 +1,7 @@
 pub mod Types
 pub mod Name
 pub mod Tables
+pub mod Wants
 pub mod Expr
 pub mod Stmt
 pub mod Program

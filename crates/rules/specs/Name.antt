@@ -1,5 +1,6 @@
 -- Reading a name from its units: the first half of compile_sym of compiler.rs.
 use Rattle.std.specs.Prelude.{ℕ, zero, suc, ◌+◌, ◌-◌, ◌%◌, Bool, List, ◌==◌, nat_lt, slice_index}
+use Rattle.recorder.specs.Numbers.{word_size}
 use Rattle.recorder.specs.Word.{pick, either, next}
 use Rattle.recorder.specs.declared.word.Range.{Range}
 use Rattle.recorder.specs.declared.codegen.Name.{Name as Units}
@@ -9,7 +10,7 @@ use Rattle.rules.specs.Types.{sigil_unit, sigil_type}
 
 -- "Starts are in the whole text": so many units behind where the line begins, as a word
 abbrev pub text_place : ℕ → ℕ → ℕ
-text_place base n = (base + n) % 4294967296
+text_place base n = (base + n) % word_size
 
 -- a blank cuts a name, a sigil ends it
 abbrev pub ends_name : ℕ → Bool

@@ -1,7 +1,8 @@
 -- Twelve of document 01's "Pairs to run", in one table.
 use Rattle.std.specs.Prelude.{ℕ, List, [], ◌∷◌, ◌++◌, map, length, replicate}
 use Rattle.recorder.specs.Ideal.{Rec, Note, Entry, Ideal}
-use Rattle.sheet.specs.Check.{checked, answer_number}
+use Rattle.sheet.specs.Check.{checked}
+use Rattle.sheet.specs.CheckAnswer.{answer_number}
 use Rattle.rules.specs.Outcome.{finished}
 
 -- what is looked at: the refusal, the notes' classes, each record's call and first two arguments but End's, and the book
@@ -45,10 +46,11 @@ pairs =
     ∷ pair (0x0F000003 ∷ 0x10000003 ∷ 0x01000002 ∷ 0x0300000A ∷ 0x04000000 ∷ 0x10000002 ∷ 0x01000001 ∷ 0x03000005 ∷ 0x04000000 ∷ 0x10000002 ∷ 0x01000001 ∷ 0x03000007 ∷ 0x04000000 ∷ [])
     (49 ∷ 48 ∷ 32 ∷ 53 ∷ 32 ∷ 55 ∷ 32 ∷ [])
     (shown 0 (1 ∷ []) [] [])
-    -- PLAY +"A", a missing part + text: call 14, kind Error, which PLAY takes without a note
-    ∷ pair (0x0F000001 ∷ 0x10000009 ∷ 0x02000000 ∷ 0x04000001 ∷ 0x2000002C ∷ 0x01000009 ∷ 0x21000005 ∷ 0x01005009 ∷ 0x21000009 ∷ 0x01005005 ∷ 0x01005006 ∷ 0x09000006 ∷ 0x21000001 ∷ 0x01006009 ∷ [])
-    (80 ∷ 76 ∷ 65 ∷ 89 ∷ 32 ∷ 43 ∷ 34 ∷ 65 ∷ 34 ∷ [])
-    (shown 0 [] ((4 ∷ 7 ∷ 1 ∷ []) ∷ (14 ∷ 6 ∷ 0 ∷ []) ∷ (2 ∷ 44 ∷ 1 ∷ []) ∷ []) [])
+    -- FPUTC #+"A",+"A", each operand a missing part + text: call 14, kind Error, since a text would have a note as the file's number, a
+    -- number as what is put
+    ∷ pair (0x0F000001 ∷ 0x10000010 ∷ 0x02000000 ∷ 0x04000001 ∷ 0x20000042 ∷ 0x01000010 ∷ 0x21000005 ∷ 0x0100700B ∷ 0x21000009 ∷ 0x01007007 ∷ 0x01007008 ∷ 0x09000006 ∷ 0x21000001 ∷ 0x0100800B ∷ 0x21000005 ∷ 0x0100C010 ∷ 0x21000009 ∷ 0x0100C00C ∷ 0x0100C00D ∷ 0x09000006 ∷ 0x21000001 ∷ 0x0100D010 ∷ [])
+    (70 ∷ 80 ∷ 85 ∷ 84 ∷ 67 ∷ 32 ∷ 35 ∷ 43 ∷ 34 ∷ 65 ∷ 34 ∷ 44 ∷ 43 ∷ 34 ∷ 65 ∷ 34 ∷ [])
+    (shown 0 [] ((4 ∷ 9 ∷ 1 ∷ []) ∷ (14 ∷ 6 ∷ 0 ∷ []) ∷ (4 ∷ 14 ∷ 1 ∷ []) ∷ (14 ∷ 6 ∷ 0 ∷ []) ∷ (2 ∷ 66 ∷ 2 ∷ []) ∷ []) [])
     -- CALL "A"+, a text + missing part: call 15, a text, for which CALL has a note
     ∷ pair (0x0F000001 ∷ 0x10000009 ∷ 0x02000000 ∷ 0x04000001 ∷ 0x20000003 ∷ 0x01000009 ∷ 0x21000005 ∷ 0x01005009 ∷ 0x21000001 ∷ 0x01005008 ∷ 0x01008009 ∷ 0x09000006 ∷ 0x21000009 ∷ 0x01009009 ∷ [])
     (67 ∷ 65 ∷ 76 ∷ 76 ∷ 32 ∷ 34 ∷ 65 ∷ 34 ∷ 43 ∷ [])

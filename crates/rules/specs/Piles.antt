@@ -1,5 +1,7 @@
 -- The piles of document 01: what each record finds on top, and what it leaves.
-use Rattle.std.specs.Prelude.{ℕ, zero, suc, ◌+◌, Bool, true, false, List, [], ◌∷◌, ◌++◌, take, replicate, ◌==◌, slice_index_or}
+use Rattle.std.specs.Prelude.{ℕ, zero, suc, ◌+◌, Bool, true, false, List, [], ◌∷◌, ◌++◌, length, take, replicate, ◌==◌, nat_le, slice_index_or}
+use Rattle.recorder.specs.StmtKind.{lset_stmt, rset_stmt, swap_stmt}
+use Rattle.recorder.specs.Calls.{func_call}
 use Rattle.recorder.specs.Word.{pick, both, either}
 use Rattle.recorder.specs.Ideal.{Rec, Entry, name_kind}
 use Rattle.recorder.specs.Closing.{is_op}
@@ -7,7 +9,8 @@ use Rattle.sheet.specs.Tree.{Opt, absent, given}
 use Rattle.rules.specs.declared.types.«Type».{«Type» as Ty}
 use Rattle.rules.specs.declared.types.«Type».TheVariants.{Integer, Real, String, Error}
 use Rattle.rules.specs.Types.{exact_matches, sigil_type}
-use Rattle.rules.specs.Tables.{operand, signature_of}
+use Rattle.rules.specs.Tables.{Signature, operand, signature_of}
+use Rattle.rules.specs.Expr.{is_add}
 
 -- "n is a number, t a text, p a place to store"; "A p has the sigil's type (% integer, $ text, else real)"
 pub data Kind : Type 0 where
@@ -88,9 +91,9 @@ unfoldable pub field_wants : ℕ → List Want
 field_wants zero = []
 field_wants (suc n) = a_place String ∷ a_number ∷ field_wants n
 
--- "emit_op takes its statement's operands in compile order"; LSET 36 and RSET 54 "a text p"
+-- "emit_op takes its statement's operands in compile order"; LSET and RSET "a text p"
 abbrev pub is_set : ℕ → Bool
-is_set k = either (k == 36) (k == 54)
+is_set k = either (k == lset_stmt) (k == rset_stmt)
 
 abbrev pub op_wants : ℕ → ℕ → List Want
 op_wants k n = pick (is_set k) (a_text ∷ a_place String ∷ []) (operands k n)
@@ -99,82 +102,86 @@ op_wants k n = pick (is_set k) (a_text ∷ a_place String ∷ []) (operands k n)
 abbrev pub if_one : ℕ → Want → List Want
 if_one f w = pick (f == 1) (w ∷ []) []
 
--- by call number, the last on top: what it takes ...
-abbrev pub wants_table : List (Rec → List Want)
-wants_table =
-    (λ r. [])  -- 0 is no call
-    ∷ (λ r. [])  -- 1 emit_no_op
-    ∷ (λ r. op_wants r.a r.b)  -- 2 emit_op (statement, count)
-    ∷ (λ r. [])  -- 3 emit_number
-    ∷ (λ r. [])  -- 4 emit_string
-    ∷ (λ r. [])  -- 5 emit_var
-    ∷ (λ r. numbers r.b)  -- 6 emit_index (symbol, k): k n
-    ∷ (λ r. [])  -- 7 emit_var_lvalue
-    ∷ (λ r. numbers r.b)  -- 8 emit_index_lvalue (symbol, k): k n
-    ∷ (λ r. [])  -- 9 emit_fn_lvalue
-    ∷ (λ r. [])  -- 10 emit_inkey
-    ∷ (λ r. arguments (take r.b (signature_of r.a).args) [])  -- 11 emit_sys_func_call (kind, count)
-    ∷ (λ r. numbers 1)  -- 12 emit_user_func_call
-    ∷ (λ r. numbers 1)  -- 13 emit_unary_expr
-    ∷ (λ r. numbers 2)  -- 14 emit_num_binary_expr
-    ∷ (λ r. a_text ∷ a_text ∷ [])  -- 15 emit_str_binary_expr
-    ∷ (λ r. a_number ∷ a_place Integer ∷ [])  -- 16 emit_assign_int
-    ∷ (λ r. a_number ∷ a_place Real ∷ [])  -- 17 emit_assign_real
-    ∷ (λ r. a_text ∷ a_place String ∷ [])  -- 18 emit_assign_str
-    ∷ (λ r. numbers 1)  -- 19 emit_jz
-    ∷ (λ r. [])  -- 20 emit_goto
-    ∷ (λ r. [])  -- 21 emit_gosub
-    ∷ (λ r. numbers 1)  -- 22 emit_on
-    ∷ (λ r. numbers (2 + r.b))  -- 23 emit_for (symbol, step): n n, n with step
-    ∷ (λ r. [])  -- 24 emit_next
-    ∷ (λ r. numbers 1)  -- 25 emit_while
-    ∷ (λ r. [])  -- 26 begin_def_fn
-    ∷ (λ r. numbers 1)  -- 27 end_def_fn
-    ∷ (λ r. numbers r.b)  -- 28 emit_dim (symbol, k): k n
-    ∷ (λ r. a_number ∷ field_wants r.a)  -- 29 emit_field (count): n and p each, then n
-    ∷ (λ r. any_place ∷ [])  -- 30 emit_read
-    ∷ (λ r. [])  -- 31 emit_restore
-    ∷ (λ r. if_one r.a a_text ++ replicate r.b any_place)  -- 32 emit_keyboard_input (prompt, count): count p, t with prompt
-    ∷ (λ r. a_number ∷ replicate r.a any_place)  -- 33 emit_file_input (count): count p, n
-    ∷ (λ r. numbers (1 + r.b) ++ (a_text ∷ []))  -- 34 emit_open (mode, len): t n, n with len
-    ∷ (λ r. numbers 1)  -- 35 emit_load_bytes
-    ∷ (λ r. numbers 1)  -- 36 emit_set_row
-    ∷ (λ r. numbers 1)  -- 37 emit_set_column
-    ∷ (λ r. numbers 1)  -- 38 emit_print_num
-    ∷ (λ r. a_text ∷ [])  -- 39 emit_print_str
-    ∷ (λ r. numbers 1)  -- 40 emit_print_spc
-    ∷ (λ r. numbers 1)  -- 41 emit_print_tab
-    ∷ (λ r. [])  -- 42 emit_newline
-    ∷ (λ r. [])  -- 43 emit_flush
-    ∷ (λ r. a_number ∷ if_one r.a a_number)  -- 44 emit_write_num (to file, end): n, a file's n below
-    ∷ (λ r. a_text ∷ if_one r.a a_number)  -- 45 emit_write_str (to file, end): t, a file's n below
-    ∷ (λ r. numbers 1)  -- 46 emit_pop_num
-    ∷ (λ r. a_text ∷ [])  -- 47 emit_pop_str
-    ∷ []
-
 -- a file's number stays below until end takes it
 abbrev pub file_stays : Rec → List Kind
 file_stays r = pick (both (r.a == 1) (r.b == 0)) (num ∷ []) []
 
--- ... and what it puts on; the calls not named put on nothing
-abbrev pub puts_of : List Entry → Rec → List Kind
-puts_of es r =
-    slice_index_or
-    ([] ∷ [] ∷ [] ∷ (num ∷ []) ∷ (txt ∷ []) ∷ (kind_of (symbol_type es r.a) ∷ []) ∷ (kind_of (symbol_type es r.a) ∷ [])  -- 3, 4, 5, 6
-    ∷ (plc (symbol_type es r.a) ∷ []) ∷ (plc (symbol_type es r.a) ∷ []) ∷ (plc Real ∷ [])  -- 7, 8, 9
-    ∷ (txt ∷ []) ∷ (kind_of (signature_of r.a).result ∷ [])  -- 10, 11
-    ∷ (num ∷ []) ∷ (num ∷ []) ∷ (num ∷ []) ∷ (pick (r.a == 6) txt num ∷ [])  -- 12, 13, 14, 15
-    ∷ [])
-    r.call
-    (pick (either (r.call == 44) (r.call == 45)) (file_stays r) [])
+-- what a record takes, the last on top, and what it puts on
+pub record Effect : Type 0 where
+  pub takes : List Want
+  pub puts : List Kind
 
-unfoldable pub wants_of : Rec → List Want
-wants_of r = slice_index_or wants_table r.call (λ x. []) r
+abbrev pub effect : List Want → List Kind → Effect
+effect ws ks = record { takes = ws; puts = ks }
+
+-- a row a call, by its number; SWAP's call 2 is in `step`
+abbrev pub effects : List (List Entry → Rec → Effect)
+effects =
+    (λ es r. effect [] [])  -- 0 is no call
+    ∷ (λ es r. effect [] [])  -- 1 emit_no_op
+    ∷ (λ es r. effect (op_wants r.a r.b) [])  -- 2 emit_op (statement, count)
+    ∷ (λ es r. effect [] (num ∷ []))  -- 3 emit_number
+    ∷ (λ es r. effect [] (txt ∷ []))  -- 4 emit_string
+    ∷ (λ es r. effect [] (kind_of (symbol_type es r.a) ∷ []))  -- 5 emit_var
+    ∷ (λ es r. effect (numbers r.b) (kind_of (symbol_type es r.a) ∷ []))  -- 6 emit_index (symbol, k): k n
+    ∷ (λ es r. effect [] (plc (symbol_type es r.a) ∷ []))  -- 7 emit_var_lvalue
+    ∷ (λ es r. effect (numbers r.b) (plc (symbol_type es r.a) ∷ []))  -- 8 emit_index_lvalue (symbol, k): k n
+    ∷ (λ es r. effect [] (plc Real ∷ []))  -- 9 emit_fn_lvalue
+    ∷ (λ es r. effect [] (txt ∷ []))  -- 10 emit_inkey
+    ∷ (λ es r. effect (arguments (take r.b (signature_of r.a).args) []) (kind_of (signature_of r.a).result ∷ []))  -- 11 emit_sys_func_call (kind, count)
+    ∷ (λ es r. effect (numbers 1) (num ∷ []))  -- 12 emit_user_func_call
+    ∷ (λ es r. effect (numbers 1) (num ∷ []))  -- 13 emit_unary_expr
+    ∷ (λ es r. effect (numbers 2) (num ∷ []))  -- 14 emit_num_binary_expr
+    ∷ (λ es r. effect (a_text ∷ a_text ∷ []) (pick (is_add r.a) txt num ∷ []))  -- 15 emit_str_binary_expr
+    ∷ (λ es r. effect (a_number ∷ a_place Integer ∷ []) [])  -- 16 emit_assign_int
+    ∷ (λ es r. effect (a_number ∷ a_place Real ∷ []) [])  -- 17 emit_assign_real
+    ∷ (λ es r. effect (a_text ∷ a_place String ∷ []) [])  -- 18 emit_assign_str
+    ∷ (λ es r. effect (numbers 1) [])  -- 19 emit_jz
+    ∷ (λ es r. effect [] [])  -- 20 emit_goto
+    ∷ (λ es r. effect [] [])  -- 21 emit_gosub
+    ∷ (λ es r. effect (numbers 1) [])  -- 22 emit_on
+    ∷ (λ es r. effect (numbers (2 + r.b)) [])  -- 23 emit_for (symbol, step): n n, n with step
+    ∷ (λ es r. effect [] [])  -- 24 emit_next
+    ∷ (λ es r. effect (numbers 1) [])  -- 25 emit_while
+    ∷ (λ es r. effect [] [])  -- 26 begin_def_fn
+    ∷ (λ es r. effect (numbers 1) [])  -- 27 end_def_fn
+    ∷ (λ es r. effect (numbers r.b) [])  -- 28 emit_dim (symbol, k): k n
+    ∷ (λ es r. effect (a_number ∷ field_wants r.a) [])  -- 29 emit_field (count): n and p each, then n
+    ∷ (λ es r. effect (any_place ∷ []) [])  -- 30 emit_read
+    ∷ (λ es r. effect [] [])  -- 31 emit_restore
+    ∷ (λ es r. effect (if_one r.a a_text ++ replicate r.b any_place) [])  -- 32 emit_keyboard_input (prompt, count): count p, t with prompt
+    ∷ (λ es r. effect (a_number ∷ replicate r.a any_place) [])  -- 33 emit_file_input (count): count p, n
+    ∷ (λ es r. effect (numbers (1 + r.b) ++ (a_text ∷ [])) [])  -- 34 emit_open (mode, len): t n, n with len
+    ∷ (λ es r. effect (numbers 1) [])  -- 35 emit_load_bytes
+    ∷ (λ es r. effect (numbers 1) [])  -- 36 emit_set_row
+    ∷ (λ es r. effect (numbers 1) [])  -- 37 emit_set_column
+    ∷ (λ es r. effect (numbers 1) [])  -- 38 emit_print_num
+    ∷ (λ es r. effect (a_text ∷ []) [])  -- 39 emit_print_str
+    ∷ (λ es r. effect (numbers 1) [])  -- 40 emit_print_spc
+    ∷ (λ es r. effect (numbers 1) [])  -- 41 emit_print_tab
+    ∷ (λ es r. effect [] [])  -- 42 emit_newline
+    ∷ (λ es r. effect [] [])  -- 43 emit_flush
+    ∷ (λ es r. effect (a_number ∷ if_one r.a a_number) (file_stays r))  -- 44 emit_write_num (to file, end): n, a file's n below
+    ∷ (λ es r. effect (a_text ∷ if_one r.a a_number) (file_stays r))  -- 45 emit_write_str (to file, end): t, a file's n below
+    ∷ (λ es r. effect (numbers 1) [])  -- 46 emit_pop_num
+    ∷ (λ es r. effect (a_text ∷ []) [])  -- 47 emit_pop_str
+    ∷ []
+
+unfoldable pub effect_of : List Entry → Rec → Effect
+effect_of es r = slice_index_or effects r.call (λ b x. effect [] []) es r
+
+-- "11 emit_sys_func_call (kind, count), by compile_sys_func_call's signatures": so many arguments its function may have
+abbrev pub allows : Signature → ℕ → Bool
+allows g n = both (nat_le g.min n) (nat_le n (length g.args))
+
+abbrev pub is_allowed : Rec → Bool
+is_allowed r = pick (r.call == func_call) (allows (signature_of r.a) r.b) true
 
 abbrev pub put_on : List Kind → Opt Pile → Opt Pile
 put_on ks absent = absent
 put_on ks (given P) = given (ks ++ P)
 
--- one record's step: the pile behind it, or absent where it does not find what it takes; SWAP is statement 58
+-- one record's step: the pile behind it, or absent where it does not find what it takes, or has more or fewer arguments than there may be
 unfoldable pub step : List Entry → Rec → Pile → Opt Pile
-step es r P = pick (is_op 58 r) (swapped P) (put_on (puts_of es r) (taken (wants_of r) P))
+step es r P =
+    pick (is_op swap_stmt r) (swapped P) (pick (is_allowed r) (put_on (effect_of es r).puts (taken (effect_of es r).takes P)) absent)

@@ -1,7 +1,8 @@
 -- Compiling a program, over any recorder: compile_prog, resolve_labels and resolve_datum_indices of compiler.rs.
 use Rattle.std.specs.Prelude.{ℕ, zero, suc, ◌+◌, ◌-◌, Bool, List, [], ◌∷◌, ◌++◌, ◌==◌, nat_lt}
 use Rattle.recorder.specs.Word.{pick, both, either}
-use Rattle.recorder.specs.Recorder.{Recorder, Look, unpack}
+use Rattle.recorder.specs.Recorder.{Recorder, Look}
+use Rattle.recorder.specs.Calls.{goto_call, gosub_call, restore_call, error_note, warning_note, labels_not_rising, target_missing, restore_target_missing, unpack}
 use Rattle.recorder.specs.Ideal.{Search, missing, found}
 use Rattle.recorder.specs.Marks.{Mark, mark, addr_of, data_of}
 use Rattle.sheet.specs.Tree.{Opt, absent, given, Target, ProgramLine}
@@ -36,11 +37,11 @@ pub record Waiting : Type 0 where
 
 -- a jump waits for its line's address: "2 target missing"
 abbrev pub jumps : Waiting
-jumps = record { waits = λ call. either (call == 20) (call == 21); find = addr_of; class = 2; severity = 1 }
+jumps = record { waits = λ call. either (call == goto_call) (call == gosub_call); find = addr_of; class = target_missing; severity = error_note }
 
 -- a RESTORE waits for its DATA index: "3 RESTORE target missing (warning)"
 abbrev pub restores : Waiting
-restores = record { waits = λ call. call == 31; find = data_of; class = 3; severity = 2 }
+restores = record { waits = λ call. call == restore_call; find = data_of; class = restore_target_missing; severity = warning_note }
 
 -- A pending record keeps its label plus 1 in b.
 abbrev pub is_pending : Waiting → Look → Bool
@@ -50,7 +51,7 @@ module _ {S : Type 0} (R : Recorder S) (t : List ℕ) where
   -- "1 labels not rising": compared with the last label, a bad one too
   abbrev pub label_note : ℕ → ℕ → Opt Target → S → S
   label_note base last absent s = s
-  label_note base last (given l) s = pick (nat_lt l.label last) (add_error R t base 1 l.range s) s
+  label_note base last (given l) s = pick (nat_lt l.label last) (add_error R t base labels_not_rising l.range s) s
 
   -- one line: begin_line, its label, its statements
   abbrev pub line_begun : Lines S → ProgramLine → S

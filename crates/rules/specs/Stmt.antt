@@ -2,14 +2,17 @@
 use Rattle.std.specs.Prelude.{ℕ, zero, suc, ◌+◌, ◌-◌, ◌*◌, Bool, true, false, List, [], ◌∷◌, length, ◌==◌, nat_le, nat_lt, slice_index}
 use Rattle.recorder.specs.Word.{pick, both, either, next, flag_of}
 use Rattle.recorder.specs.declared.word.Range.{Range}
-use Rattle.recorder.specs.Recorder.{Recorder, Named, pending_label, pack, unknown}
+use Rattle.recorder.specs.Numbers.{byte_size, text_limit, number_one}
+use Rattle.recorder.specs.StmtKind.{swap_stmt}
+use Rattle.recorder.specs.Recorder.{Recorder, Named}
+use Rattle.recorder.specs.Calls.{no_label, for_label, emit_no_op, emit_op, emit_number, emit_fn_lvalue, emit_assign_int, emit_assign_real, emit_assign_str, emit_jz, emit_goto, emit_gosub, emit_on, emit_for, emit_next, emit_while, begin_def_fn, end_def_fn, emit_dim, emit_field, emit_read, emit_restore, emit_keyboard_input, emit_file_input, emit_open, emit_load_bytes, emit_set_row, emit_set_column, emit_print_num, emit_print_str, emit_print_spc, emit_print_tab, emit_newline, emit_flush, emit_write_num, emit_write_str, emit_pop_num, emit_pop_str, kinds_differ, name_of_wrong_kind, too_few_arguments, too_many_arguments, text_too_long, value_dropped, not_allowed}
 use Rattle.sheet.specs.Tree.{Opt, absent, given, Expr, ident, string_lit, number_lit, sys_func_call, user_func_call, binary, unary, index, inkey, error, Exprs, none, more, expr_range, count, Datum, FieldSpec, Target, OnTarget, Len, WriteElement, PrintElement, value, comma, semicolon, InputSource, keyboard, file, Stmt, rem, op₀, op₁, op₂, op₃, draw, set, data_list, def, dim, field, for, go, if_then, if_else, input, assign, load, locate, next_of, on, open_file, print, read, restore, swap, system, while, write, Stmts, end, then}
 use Rattle.rules.specs.declared.types.«Type».{«Type» as Ty}
 use Rattle.rules.specs.declared.types.«Type».TheVariants.{Integer, Real, String, Error}
 use Rattle.rules.specs.Types.{matches_type, exact_matches}
 use Rattle.rules.specs.Name.{text_place}
 use Rattle.rules.specs.Tables.{draw_arity, drawn, operand, signature_of, wanted, every_real, tab, spc}
-use Rattle.rules.specs.Expr.{Sym, after, quoted_start, quoted_length, text_size, add_error, add_warning, compile_sym, check_type, real_sym, no_sym, opt_real_sym, text_node, element_by, compile_expr, compile_args, compile_typed, compile_lvalue}
+use Rattle.rules.specs.Expr.{Sym, after, quoted_start, quoted_length, text_size, add_error, add_warning, compile_sym, check_type, real_sym, no_sym, opt_real_sym, text_node, compile_expr, compile_args, compile_typed, compile_lvalue}
 
 -- a LOAD byte, read as str::parse::<u8> reads it, without blanks: one plus at most, then digits, up to 255.
 -- What was read so far: nothing, a plus, a number, or what is no byte.
@@ -20,7 +23,7 @@ pub data ByteRead : Type 0 where
   no_byte : ByteRead
 
 abbrev pub up_to255 : ℕ → ByteRead
-up_to255 n = pick (nat_lt n 256) (byte_so_far n) no_byte
+up_to255 n = pick (nat_lt n byte_size) (byte_so_far n) no_byte
 
 abbrev pub digit : ByteRead → ℕ → ByteRead
 digit fresh d = up_to255 d
@@ -96,10 +99,6 @@ abbrev pub label_or0 : Opt ℕ → ℕ
 label_or0 absent = 0
 label_or0 (given l) = l
 
--- call 21 emit_gosub or 20 emit_goto
-abbrev pub go_call : ℕ → ℕ
-go_call sub = pick (sub == 1) 21 20
-
 -- whether an element of PRINT is an expression
 abbrev pub is_value : PrintElement → Bool
 is_value (value e) = true
@@ -140,26 +139,22 @@ is_last [] = true
 is_last (x ∷ xs) = false
 
 module _ {S : Type 0} (R : Recorder S) (t : List ℕ) (base : ℕ) where
-  -- emit_op
-  abbrev pub emit_op : ℕ → ℕ → Range → S → S
-  emit_op k n r s = R.emit s 2 r k n 0
-
   -- compile_draw_stmt: too few arguments, each argument too many, or the call
   unfoldable pub surplus_notes : ℕ → Exprs → S → S
   surplus_notes n none s = s
-  surplus_notes zero (more e es) s = surplus_notes zero es (add_error R t base 7 (expr_range e) s)
+  surplus_notes zero (more e es) s = surplus_notes zero es (add_error R t base too_many_arguments (expr_range e) s)
   surplus_notes (suc n) (more e es) s = surplus_notes n es s
 
   unfoldable pub draw_node : ℕ → Range → Exprs → S → S
   draw_node k r es s =
-      pick (nat_lt (count es) (draw_arity k).min) (add_error R t base 6 r s)
-      (pick (nat_lt (draw_arity k).max (count es)) (surplus_notes (draw_arity k).max es s) (emit_op k (count es) r s))
+      pick (nat_lt (count es) (draw_arity k).min) (add_error R t base too_few_arguments r s)
+      (pick (nat_lt (draw_arity k).max (count es)) (surplus_notes (draw_arity k).max es s) (emit_op (R.emit s) k (count es) r))
 
   -- compile_data
   unfoldable pub datum_node : Datum → S → S
   datum_node d s =
-      pick (nat_lt 255 (text_size (datum_length t base d)))
-      (add_error R t base 8 d.range (R.datum s (datum_start base d) (datum_length t base d) d.quoted))
+      pick (nat_lt text_limit (text_size (datum_length t base d)))
+      (add_error R t base text_too_long d.range (R.datum s (datum_start base d) (datum_length t base d) d.quoted))
       (R.datum s (datum_start base d) (datum_length t base d) d.quoted)
 
   unfoldable pub compile_data : List Datum → S → S
@@ -168,7 +163,7 @@ module _ {S : Type 0} (R : Recorder S) (t : List ℕ) (base : ℕ) where
 
   -- compile_def: begin_def_fn, the body, end_def_fn, where name and parameter are there; else the body alone
   abbrev pub end_def : Range → ℕ → S → S
-  end_def r k s = let u = R.emit s 27 r 0 0 0 in R.patch_end u k (R.count u)
+  end_def r k s = let u = end_def_fn (R.emit s) r in R.patch_end u k (R.count u)
 
   abbrev pub def_body : Expr → S → S
   def_body e s = compile_typed R t base Real e s
@@ -176,7 +171,7 @@ module _ {S : Type 0} (R : Recorder S) (t : List ℕ) (base : ℕ) where
   abbrev pub def_node : Opt Range → Opt Range → Range → ℕ → ℕ → Expr → S → S
   def_node absent p r n a e s = def_body e s
   def_node (given nr) absent r n a e s = def_body e s
-  def_node (given nr) (given pr) r n a e s = end_def r (R.count s) (def_body e (R.emit s 26 r n a unknown))
+  def_node (given nr) (given pr) r n a e s = end_def r (R.count s) (def_body e (begin_def_fn (R.emit s) n a r))
 
   unfoldable pub compile_def : Range → Opt Range → Opt Range → Expr → S → S
   compile_def r n p e s =
@@ -185,9 +180,12 @@ module _ {S : Type 0} (R : Recorder S) (t : List ℕ) (base : ℕ) where
       def_node n p r x.number y.number e y.state
 
   -- compile_dim: an array's subscripts and its name; any other expression makes nothing
+  abbrev pub dim_by : Range → ℕ → Sym S → S
+  dim_by r n y = emit_dim (R.emit y.state) y.number n r
+
   abbrev pub dim_node : Opt Range → ℕ → S → S
   dim_node absent n s = s
-  dim_node (given nr) n s = (element_by R t base 28 nr n (compile_sym R t base nr s)).state
+  dim_node (given nr) n s = dim_by nr n (compile_sym R t base nr s)
 
   unfoldable pub dim_one : Expr → S → S
   dim_one (index r n es) s = dim_node n (count es) (compile_args R t base every_real zero es s)
@@ -215,7 +213,7 @@ module _ {S : Type 0} (R : Recorder S) (t : List ℕ) (base : ℕ) where
   compile_fields (f ∷ fs) s = compile_fields fs (place_typed String f.var (compile_typed R t base Real f.len s))
 
   unfoldable pub compile_field : Range → Expr → List FieldSpec → S → S
-  compile_field r e fs s = R.emit (compile_typed R t base Real e (compile_fields fs s)) 29 r (length fs) 0 0
+  compile_field r e fs s = emit_field (R.emit (compile_typed R t base Real e (compile_fields fs s))) (length fs) r
 
   -- compile_for
   abbrev pub compile_step : Opt Expr → S → S
@@ -224,7 +222,7 @@ module _ {S : Type 0} (R : Recorder S) (t : List ℕ) (base : ℕ) where
 
   abbrev pub for_node : Opt Range → Range → ℕ → Opt Expr → S → S
   for_node absent r n e s = s
-  for_node (given v) r n e s = R.emit s 23 r n (step_flag e) 0
+  for_node (given v) r n e s = emit_for (R.emit s) n (step_flag e) r
 
   unfoldable pub compile_for : Range → Opt Range → Expr → Expr → Opt Expr → S → S
   compile_for r v a b e s =
@@ -233,25 +231,25 @@ module _ {S : Type 0} (R : Recorder S) (t : List ℕ) (base : ℕ) where
 
   -- compile_go: a jump that waits for its label
   abbrev pub pending_jump : ℕ → Range → ℕ → Range → S → S
-  pending_jump sub r l lr s = R.emit s (go_call sub) r unknown (pending_label l) (pack lr)
+  pending_jump sub r l lr s = pick (sub == 1) (emit_gosub (R.emit s) (for_label l lr) r) (emit_goto (R.emit s) (for_label l lr) r)
 
   unfoldable pub compile_go : Range → ℕ → Opt Target → S → S
   compile_go r sub g s = pending_jump sub r (target_label g) (target_range r g) s
 
   -- compile_restore
   abbrev pub compile_restore : Range → Opt Target → S → S
-  compile_restore r absent s = R.emit s 31 r 0 0 0
-  compile_restore r (given g) s = R.emit s 31 r 0 (pending_label g.label) (pack g.range)
+  compile_restore r absent s = emit_restore (R.emit s) no_label r
+  compile_restore r (given g) s = emit_restore (R.emit s) (for_label g.label g.range) r
 
   -- compile_input: a variable, or from the keyboard a function of a variable
   abbrev pub input_arg_by : Bool → Expr → S → Named S
   input_arg_by true e s = real_sym R t base (expr_range e) s
-  input_arg_by false e s = no_sym R t base (add_error R t base 12 (expr_range e) s)
+  input_arg_by false e s = no_sym R t base (add_error R t base not_allowed (expr_range e) s)
 
   abbrev pub fn_place : Opt Range → Bool → Range → ℕ → ℕ → S → S
   fn_place absent b r n a s = s
   fn_place (given fr) false r n a s = s
-  fn_place (given fr) true r n a s = R.emit s 9 r n a 0
+  fn_place (given fr) true r n a s = emit_fn_lvalue (R.emit s) n a r
 
   abbrev pub input_fn : Range → Opt Range → Expr → S → S
   input_fn r f e s =
@@ -260,7 +258,7 @@ module _ {S : Type 0} (R : Recorder S) (t : List ℕ) (base : ℕ) where
       fn_place f (is_ident e) r x.number y.number y.state
 
   abbrev pub fn_input : Bool → Range → Opt Range → Expr → S → S
-  fn_input true r f e s = add_error R t base 12 r s
+  fn_input true r f e s = add_error R t base not_allowed r s
   fn_input false r f e s = input_fn r f e s
 
   unfoldable pub input_var : Bool → Expr → S → S
@@ -280,29 +278,29 @@ module _ {S : Type 0} (R : Recorder S) (t : List ℕ) (base : ℕ) where
   input_vars is_file (more e es) s = input_vars is_file es (input_var is_file e s)
 
   abbrev pub input_source : Range → ℕ → InputSource → S → S
-  input_source r n (keyboard absent) s = R.emit s 32 r 0 n 0
-  input_source r n (keyboard (given p)) s = R.emit (text_node R t base p s) 32 r 1 n 0
-  input_source r n (file e) s = R.emit (compile_typed R t base Real e s) 33 r n 0 0
+  input_source r n (keyboard absent) s = emit_keyboard_input (R.emit s) 0 n r
+  input_source r n (keyboard (given p)) s = emit_keyboard_input (R.emit (text_node R t base p s)) 1 n r
+  input_source r n (file e) s = emit_file_input (R.emit (compile_typed R t base Real e s)) n r
 
   unfoldable pub compile_input : Range → InputSource → Exprs → S → S
   compile_input r src es s = input_source r (count es) src (input_vars (is_file src) es s)
 
   -- LET
   abbrev pub assign_call : Ty → Range → S → S
-  assign_call Integer r s = R.emit s 16 r 0 0 0
-  assign_call Real r s = R.emit s 17 r 0 0 0
-  assign_call String r s = R.emit s 18 r 0 0 0
+  assign_call Integer r s = emit_assign_int (R.emit s) r
+  assign_call Real r s = emit_assign_real (R.emit s) r
+  assign_call String r s = emit_assign_str (R.emit s) r
   assign_call Error r s = s
 
   unfoldable pub assign_node : Range → Ty → Ty → S → S
-  assign_node r x y s = assign_call x r (pick (matches_type x y) s (add_error R t base 4 r s))
+  assign_node r x y s = assign_call x r (pick (matches_type x y) s (add_error R t base kinds_differ r s))
 
   unfoldable pub compile_let : Range → Expr → Expr → S → S
   compile_let r a b s = after (compile_lvalue R t base a s) (λ x u. after (compile_expr R t base b u) (λ y v. assign_node r x y v))
 
   -- compile_load: notes for what is no byte; the bytes only if all are
   abbrev pub bad_byte : Opt ℕ → Range → S → S
-  bad_byte absent r s = add_error R t base 12 r s
+  bad_byte absent r s = add_error R t base not_allowed r s
   bad_byte (given b) r s = s
 
   unfoldable pub bad_bytes : Exprs → S → S
@@ -322,26 +320,30 @@ module _ {S : Type 0} (R : Recorder S) (t : List ℕ) (base : ℕ) where
   load_bytes (more e es) s = load_bytes es (load_byte (byte_of t base e) (expr_range e) s)
 
   unfoldable pub load_node : Range → Exprs → S → S
-  load_node r none s = add_error R t base 6 r s
+  load_node r none s = add_error R t base too_few_arguments r s
   load_node r (more e es) s =
       let u = bad_bytes (more e es) s in
-      pick (all_bytes (more e es)) (R.emit (load_bytes (more e es) u) 35 r (R.next_byte u) (count (more e es)) 0) u
+      pick (all_bytes (more e es)) (emit_load_bytes (R.emit (load_bytes (more e es) u)) (R.next_byte u) (count (more e es)) r) u
 
   unfoldable pub compile_load : Range → Exprs → S → S
   compile_load r none s = s
   compile_load r (more e es) s = load_node r es (compile_typed R t base Real e s)
 
-  -- compile_locate: call 36 or 37
-  abbrev pub locate_part : ℕ → Opt Expr → S → S
-  locate_part call absent s = s
-  locate_part call (given e) s = R.emit (compile_typed R t base Real e s) call (expr_range e) 0 0 0
+  -- compile_locate
+  abbrev pub locate_row : Opt Expr → S → S
+  locate_row absent s = s
+  locate_row (given e) s = emit_set_row (R.emit (compile_typed R t base Real e s)) (expr_range e)
+
+  abbrev pub locate_column : Opt Expr → S → S
+  locate_column absent s = s
+  locate_column (given e) s = emit_set_column (R.emit (compile_typed R t base Real e s)) (expr_range e)
 
   unfoldable pub compile_locate : Opt Expr → Opt Expr → S → S
-  compile_locate a b s = locate_part 37 b (locate_part 36 a s)
+  compile_locate a b s = locate_column b (locate_row a s)
 
   -- compile_next: "a list of absent NEXT names" is not an empty one
   abbrev pub next_by : Range → Range → Sym S → S
-  next_by r v y = R.emit (pick (matches_type y.ty Real) y.state (add_error R t base 5 v y.state)) 24 r (y.number + 1) 0 0
+  next_by r v y = emit_next (R.emit (pick (matches_type y.ty Real) y.state (add_error R t base name_of_wrong_kind v y.state))) (y.number + 1) r
 
   abbrev pub next_one : ℕ → Range → Opt Range → S → S
   next_one n r absent s = s
@@ -352,7 +354,7 @@ module _ {S : Type 0} (R : Recorder S) (t : List ℕ) (base : ℕ) where
   next_each n r (v ∷ vs) s = next_each n r vs (next_one n r v s)
 
   unfoldable pub compile_next : Range → List (Opt Range) → S → S
-  compile_next r [] s = R.emit s 24 r 0 0 0
+  compile_next r [] s = emit_next (R.emit s) 0 r
   compile_next r (v ∷ vs) s = next_each (length (v ∷ vs)) r (v ∷ vs) s
 
   -- compile_on
@@ -361,24 +363,26 @@ module _ {S : Type 0} (R : Recorder S) (t : List ℕ) (base : ℕ) where
   on_jumps sub (g ∷ gs) s = on_jumps sub gs (pending_jump sub g.range (label_or0 g.label) g.range s)
 
   unfoldable pub compile_on : Range → Expr → List OnTarget → ℕ → S → S
-  compile_on r e gs sub s = on_jumps sub gs (R.emit (compile_typed R t base Real e s) 22 r (length gs) 0 0)
+  compile_on r e gs sub s = on_jumps sub gs (emit_on (R.emit (compile_typed R t base Real e s)) (length gs) r)
 
   -- compile_open: modes 0 Error, 1 Random
   abbrev pub len_notes : ℕ → Range → S → S
-  len_notes m r s = pick (nat_lt 1 m) (add_error R t base 12 r s) s
+  len_notes m r s = pick (nat_lt 1 m) (add_error R t base not_allowed r s) s
 
   abbrev pub open_node : Range → ℕ → Opt Len → S → S
-  open_node r m absent s = R.emit s 34 r m 0 0
+  open_node r m absent s = emit_open (R.emit s) m 0 r
   open_node r m (given l) s =
       let u = compile_typed R t base Real l.value (len_notes m l.range s) in
-      pick (m == 0) u (R.emit u 34 r m 1 0)
+      pick (m == 0) u (emit_open (R.emit u) m 1 r)
 
   unfoldable pub compile_open : Range → Expr → ℕ → Expr → Opt Len → S → S
   compile_open r f m e l s = open_node r m l (compile_typed R t base Real e (compile_typed R t base String f s))
 
+  abbrev pub tab_node : ℕ → Range → S → S
+  tab_node k r s = pick (k == spc) (emit_print_spc (R.emit s) r) (emit_print_tab (R.emit s) r)
+
   abbrev pub tab_call : Expr → S → S
-  tab_call (sys_func_call r fr k es) s =
-      R.emit (compile_args R t base (wanted (signature_of k).args) zero es (surplus_notes 1 es s)) (pick (k == spc) 40 41) r 0 0 0
+  tab_call (sys_func_call r fr k es) s = tab_node k r (compile_args R t base (wanted (signature_of k).args) zero es (surplus_notes 1 es s))
   tab_call (ident r) s = s
   tab_call (string_lit r) s = s
   tab_call (number_lit r e m) s = s
@@ -389,21 +393,23 @@ module _ {S : Type 0} (R : Recorder S) (t : List ℕ) (base : ℕ) where
   tab_call (inkey r) s = s
   tab_call (error r) s = s
 
-  -- call 38 or 39
+  abbrev pub print_node : Range → Ty → S → S
+  print_node r x s = pick (matches_type x Real) (emit_print_num (R.emit s) r) (emit_print_str (R.emit s) r)
+
   abbrev pub print_value : Expr → S → S
-  print_value e s = after (compile_expr R t base e s) (λ x u. R.emit u (pick (matches_type x Real) 38 39) (expr_range e) 0 0 0)
+  print_value e s = after (compile_expr R t base e s) (λ x u. print_node (expr_range e) x u)
 
   -- behind the last element a new line; between two values, the first not TAB or SPC, one blank
   abbrev pub blank_between : Range → S → S
-  blank_between r s = R.emit (R.emit s 3 r 129 2147483648 0) 40 r 0 0 0
+  blank_between r s = emit_print_spc (R.emit (emit_number (R.emit s) number_one.e number_one.m r)) r
 
   abbrev pub behind_value : Bool → Range → Range → List PrintElement → S → S
-  behind_value tabbed r er [] s = R.emit s 42 r 0 0 0
+  behind_value tabbed r er [] s = emit_newline (R.emit s) r
   behind_value tabbed r er (x ∷ xs) s = pick (both (is_value x) (pick tabbed false true)) (blank_between er s) s
 
   abbrev pub print_one : Range → PrintElement → List PrintElement → S → S
   print_one r (value e) xs s = behind_value (is_tab_spc e) r (expr_range e) xs (pick (is_tab_spc e) (tab_call e s) (print_value e s))
-  print_one r (comma er) xs s = R.emit s 42 er 0 0 0
+  print_one r (comma er) xs s = emit_newline (R.emit s) er
   print_one r (semicolon er) xs s = s
 
   unfoldable pub print_each : Range → List PrintElement → S → S
@@ -411,32 +417,38 @@ module _ {S : Type 0} (R : Recorder S) (t : List ℕ) (base : ℕ) where
   print_each r (x ∷ xs) s = print_each r xs (print_one r x xs s)
 
   abbrev pub empty_line : Range → List PrintElement → S → S
-  empty_line r [] s = R.emit s 42 r 0 0 0
+  empty_line r [] s = emit_newline (R.emit s) r
   empty_line r (x ∷ xs) s = s
 
   unfoldable pub compile_print : Range → List PrintElement → S → S
-  compile_print r xs s = R.emit (empty_line r xs (print_each r xs s)) 43 r 0 0 0
+  compile_print r xs s = emit_flush (R.emit (empty_line r xs (print_each r xs s))) r
 
   -- compile_read
   unfoldable pub compile_read : Exprs → S → S
   compile_read none s = s
-  compile_read (more e es) s = compile_read es (R.emit (compile_lvalue R t base e s).state 30 (expr_range e) 0 0 0)
+  compile_read (more e es) s = compile_read es (emit_read (R.emit (compile_lvalue R t base e s).state) (expr_range e))
 
   -- SWAP
   unfoldable pub compile_swap : Range → Expr → Expr → S → S
   compile_swap r a b s =
       after (compile_lvalue R t base a s)
-      (λ x u. after (compile_lvalue R t base b u) (λ y v. emit_op 58 2 r (pick (exact_matches x y) v (add_error R t base 4 r v))))
+      (λ x u. after (compile_lvalue R t base b u) (λ y v. emit_op (R.emit (pick (exact_matches x y) v (add_error R t base kinds_differ r v))) swap_stmt 2 r))
 
   -- compile_while
   unfoldable pub compile_while : Range → Expr → S → S
-  compile_while r e s = R.emit (compile_typed R t base Real e s) 25 r (R.count s) unknown 0
+  compile_while r e s = emit_while (R.emit (compile_typed R t base Real e s)) (R.count s) r
+
+  abbrev pub write_node : ℕ → Bool → Ty → Range → S → S
+  write_node to_file last ty r s =
+      pick (matches_type ty Real) (emit_write_num (R.emit s) to_file (flag_of last) r) (emit_write_str (R.emit s) to_file (flag_of last) r)
+
+  abbrev pub pop_node : Ty → Range → S → S
+  pop_node ty r s = pick (matches_type ty Real) (emit_pop_num (R.emit s) r) (emit_pop_str (R.emit s) r)
 
   unfoldable pub write_value : ℕ → WriteElement → Bool → Ty → S → S
   write_value to_file d last ty s =
-      pick (either last (d.comma == 1))
-      (R.emit s (pick (matches_type ty Real) 44 45) (expr_range d.datum) to_file (flag_of last) 0)
-      (R.emit (add_warning R t base 11 (expr_range d.datum) s) (pick (matches_type ty Real) 46 47) (expr_range d.datum) 0 0 0)
+      pick (either last (d.comma == 1)) (write_node to_file last ty (expr_range d.datum) s)
+      (pop_node ty (expr_range d.datum) (add_warning R t base value_dropped (expr_range d.datum) s))
 
   unfoldable pub write_each : ℕ → List WriteElement → S → S
   write_each to_file [] s = s
@@ -444,15 +456,15 @@ module _ {S : Type 0} (R : Recorder S) (t : List ℕ) (base : ℕ) where
       write_each to_file ds (after (compile_expr R t base d.datum s) (λ x u. write_value to_file d (is_last ds) x u))
 
   abbrev pub compile_write : Range → Opt Expr → List WriteElement → S → S
-  compile_write r absent ds s = R.emit (write_each 0 ds s) 43 r 0 0 0
+  compile_write r absent ds s = emit_flush (R.emit (write_each 0 ds s)) r
   compile_write r (given e) ds s = write_each 1 ds (compile_typed R t base Real e s)
 
   -- compile_if: the jump on zero, and the jump over the other branch, get their targets as soon as they are known
   abbrev pub if_jump : Range → S → S
-  if_jump r s = R.emit s 19 r unknown 0 0
+  if_jump r s = emit_jz (R.emit s) r
 
   abbrev pub else_jump : Range → S → S
-  else_jump r s = R.emit s 20 r unknown 0 0
+  else_jump r s = emit_goto (R.emit s) no_label r
 
   abbrev pub end_here : ℕ → S → S
   end_here k s = R.patch s k (R.count s)
@@ -460,14 +472,14 @@ module _ {S : Type 0} (R : Recorder S) (t : List ℕ) (base : ℕ) where
   -- compile_stmt
   unfoldable mutual
     pub compile_stmt : Stmt → S → S
-    compile_stmt (rem r) s = R.emit s 1 r 0 0 0
-    compile_stmt (op₀ k r) s = emit_op k 0 r s
-    compile_stmt (op₁ k r a) s = emit_op k 1 r (compile_typed R t base (operand k 0) a s)
-    compile_stmt (op₂ k r a b) s = emit_op k 2 r (compile_typed R t base (operand k 1) b (compile_typed R t base (operand k 0) a s))
+    compile_stmt (rem r) s = emit_no_op (R.emit s) r
+    compile_stmt (op₀ k r) s = emit_op (R.emit s) k 0 r
+    compile_stmt (op₁ k r a) s = emit_op (R.emit (compile_typed R t base (operand k 0) a s)) k 1 r
+    compile_stmt (op₂ k r a b) s = emit_op (R.emit (compile_typed R t base (operand k 1) b (compile_typed R t base (operand k 0) a s))) k 2 r
     compile_stmt (op₃ k r a b c) s =
-        emit_op k 3 r (compile_typed R t base (operand k 2) c (compile_typed R t base (operand k 1) b (compile_typed R t base (operand k 0) a s)))
+        emit_op (R.emit (compile_typed R t base (operand k 2) c (compile_typed R t base (operand k 1) b (compile_typed R t base (operand k 0) a s)))) k 3 r
     compile_stmt (draw k r es) s = draw_node k r es (compile_args R t base (drawn k) zero es s)
-    compile_stmt (set k r a b) s = emit_op k 2 r (compile_typed R t base String b (place_typed String a s))
+    compile_stmt (set k r a b) s = emit_op (R.emit (compile_typed R t base String b (place_typed String a s))) k 2 r
     compile_stmt (data_list r ds) s = compile_data ds s
     compile_stmt (def r n p e) s = compile_def r n p e s
     compile_stmt (dim r es) s = compile_dim es s
@@ -492,7 +504,7 @@ module _ {S : Type 0} (R : Recorder S) (t : List ℕ) (base : ℕ) where
     compile_stmt (read r es) s = compile_read es s
     compile_stmt (restore r g) s = compile_restore r g s
     compile_stmt (swap r a b) s = compile_swap r a b s
-    compile_stmt (system r) s = add_error R t base 12 r s
+    compile_stmt (system r) s = add_error R t base not_allowed r s
     compile_stmt (while r e) s = compile_while r e s
     compile_stmt (write r f ds) s = compile_write r f ds s
 

@@ -1,13 +1,10 @@
 -- What the statements and functions want, as compile_stmt and compile_sys_func_call of compiler.rs say it.
 use Rattle.std.specs.Prelude.{ℕ, List, [], ◌∷◌, ◌==◌, nat_lt, slice_index_or}
+use Rattle.recorder.specs.StmtKind.{box_stmt, circle_stmt, draw_stmt, ellipse_stmt, line_stmt, play_stmt, fputc_stmt, debug_print_stmt}
 use Rattle.recorder.specs.Word.{pick, both}
 use Rattle.rules.specs.declared.types.«Type».{«Type» as Ty}
 use Rattle.rules.specs.declared.types.«Type».TheVariants.{Real, String, Error}
-use Rattle.rules.specs.declared.tables.Sig.{Sig}
-use Rattle.rules.specs.declared.tables.Sig.TheVariants.{RealOfReal, RealOfText, TextOfReal, TextPart, Mid, Point}
 use Rattle.rules.specs.declared.tables.Arity.{Arity}
-use Rattle.rules.specs.declared.tables.Wants.{Wants}
-use Rattle.rules.specs.declared.tables.Wants.TheVariants.{Func, Every, Draw, Operands}
 
 -- a function's signature: how many arguments at least, their kinds, and the kind of its value
 pub record Signature : Type 0 where
@@ -93,11 +90,11 @@ arity a b = record { min = a; max = b }
 
 unfoldable pub draw_arity : ℕ → Arity
 draw_arity k =
-    pick (k == 2) (arity 4 6)  -- Box
-    (pick (k == 4) (arity 3 5)  -- Circle
-    (pick (k == 14) (arity 2 3)  -- Draw
-    (pick (k == 16) (arity 4 6)  -- Ellipse
-    (pick (k == 32) (arity 4 5)  -- Line
+    pick (k == box_stmt) (arity 4 6)
+    (pick (k == circle_stmt) (arity 3 5)
+    (pick (k == draw_stmt) (arity 2 3)
+    (pick (k == ellipse_stmt) (arity 4 6)
+    (pick (k == line_stmt) (arity 4 5)
     (arity 5 6)))))  -- Paint
 
 abbrev pub drawn : ℕ → ℕ → Ty
@@ -105,19 +102,4 @@ drawn k i = pick (nat_lt i (draw_arity k).max) Real Error
 
 -- the operands of the statements of one, two and three: numbers, but PLAY's and DEBUGPRINT's, and FPUTC's second
 unfoldable pub operand : ℕ → ℕ → Ty
-operand k i = pick (k == 44) String (pick (k == 70) String (pick (both (k == 66) (i == 1)) String Real))
-
--- the code's names for the six signatures, and for the four ways in which a list of arguments is checked
-abbrev pub signature_for : Sig → Signature
-signature_for RealOfReal = real_of_real
-signature_for RealOfText = real_of_text
-signature_for TextOfReal = text_of_real
-signature_for TextPart = text_part
-signature_for Mid = signature 2 (String ∷ Real ∷ Real ∷ []) String
-signature_for Point = signature 2 (Real ∷ Real ∷ []) Real
-
-abbrev pub wanted_by : Wants → ℕ → Ty
-wanted_by (Func k) = wanted (signature_of k).args
-wanted_by Every = every_real
-wanted_by (Draw k) = drawn k
-wanted_by (Operands k) = operand k
+operand k i = pick (k == play_stmt) String (pick (k == debug_print_stmt) String (pick (both (k == fputc_stmt) (i == 1)) String Real))

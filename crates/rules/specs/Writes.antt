@@ -1,6 +1,7 @@
 -- The clause about WRITE among the missing parts, on the list that the rules make: "the end of a WRITE to a file that makes no call
 -- 44 or 45, or of which not just the last such call has end 1".
 use Rattle.std.specs.Prelude.{◌≡◌, ℕ, zero, suc, ◌-◌, Bool, true, List, [], ◌∷◌, ◌++◌, ◌==◌}
+use Rattle.recorder.specs.Calls.{write_num_call, write_str_call}
 use Rattle.recorder.specs.Word.{pick, either}
 use Rattle.recorder.specs.Ideal.{Rec, Ideal}
 use Rattle.recorder.specs.Closing.{rules_r, rec_at}
@@ -11,7 +12,7 @@ use Rattle.rules.specs.Each.{here, each_of}
 
 -- the calls 44 and 45 of a list of records, in order
 abbrev pub is_write_call : ℕ → Bool
-is_write_call k = either (k == 44) (k == 45)
+is_write_call k = either (k == write_num_call) (k == write_str_call)
 
 unfoldable pub write_calls : List Rec → List WriteCall
 write_calls [] = []

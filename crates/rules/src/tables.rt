@@ -1,7 +1,8 @@
 // What the statements and functions want: the tables of compile_stmt and compile_sys_func_call of compiler.rs.
 ghost use Rattle.std.specs.Prelude.{◌≡◌, ◌==◌, length, map};
 ghost use Rattle.recorder.specs.Word.{either};
-ghost use Rattle.rules.specs.Tables.{signatures, signature_for, signature_of, wanted, tab, spc, draw_arity, operand, wanted_by};
+ghost use Rattle.rules.specs.Tables.{signatures, signature_of, wanted, tab, spc, draw_arity, operand};
+ghost use Rattle.rules.specs.Wants.{signature_for, wanted_by};
 
 use crate::types::Type;
 

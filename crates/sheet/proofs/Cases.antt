@@ -19,7 +19,8 @@ use Rattle.sheet.specs.declared.form.ElementKind.TheVariants.{Expr, Comma, Semic
 use Rattle.sheet.specs.declared.form.Field.{Field}
 use Rattle.sheet.specs.declared.form.Item.{Item}
 use Rattle.sheet.specs.declared.form.Item.TheVariants.{Range as range, Name as name, OptionalName as optionalName, Text as text, Number as number}
-use Rattle.sheet.specs.Table.{expr, sys_func, binary_op, unary_op, one, non_empty, expr_kinds, expr_kind, source_kind, element_kind, expr_fields, expr_range_item, may_stand}
+use Rattle.sheet.specs.Table.{expr, sys_func, binary_op, unary_op, one, non_empty, expr_fields, expr_range_item, may_stand}
+use Rattle.sheet.specs.Kinds.{expr_kinds, expr_kind, source_kind, element_kind}
 
 -- Error's number is 9, and every larger one reads as it
 abbrev pub ExprNumber : ExprKind → ℕ → Type 0

@@ -3,3 +3,4 @@ pub mod Shapes
 pub mod Numbers
 pub mod Cases
 pub mod Names
+pub mod Lists

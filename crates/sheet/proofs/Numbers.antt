@@ -12,7 +12,8 @@ use Rattle.sheet.specs.declared.form.Refusal.TheVariants.{TooLong, Surrogate, Wo
 use Rattle.sheet.specs.Table.{kind_number}
 use Rattle.sheet.specs.Walk.{Walk}
 use Rattle.sheet.specs.Form.{sheet_form}
-use Rattle.sheet.specs.Check.{is_too_long, has_surrogate, form_checked, checked, offence_number, refusal_number, answer_number}
+use Rattle.sheet.specs.Check.{is_too_long, has_surrogate, form_checked, checked, offence_number, refusal_number}
+use Rattle.sheet.specs.CheckAnswer.{answer_number}
 
 pub kind_some : (k : Kind) → 0 < kind_number k
 kind_some RangeWord = omega arith

@@ -3,7 +3,8 @@ use mathlib.Core.Path.{◌≡◌, sym}
 use Prim.Native.Nat.{ℕ}
 use lib.ListN.{get_or-map}
 use Rattle.sheet.specs.declared.form.Shape.TheVariants.{NoOp}
-use Rattle.sheet.specs.Table.{stmt_fields, shape_fields}
+use Rattle.sheet.specs.Table.{stmt_fields}
+use Rattle.sheet.specs.Shapes.{shape_fields}
 use Rattle.sheet.specs.Tree.{shape_table, shape_of}
 
 pub fields_rule : (k : ℕ) → shape_fields (shape_of k) ≡ stmt_fields k

@@ -1,5 +1,6 @@
 -- Refusals 1 to 8 of a whole input: which one decides, and its place.
 use Rattle.std.specs.Prelude.{Result, Ok, Err, List, [], ◌∷◌, Bool, false, ℕ, ltb, length}
+use Rattle.recorder.specs.Numbers.{sheet_limit}
 use Rattle.recorder.specs.Word.{pick, either}
 use Rattle.sheet.specs.declared.form.Offence.{Offence}
 use Rattle.sheet.specs.declared.form.Offence.TheVariants.{BadWord, TooDeep, BadLength, BadRange, Fseek}
@@ -15,7 +16,7 @@ has_surrogate (u ∷ us) = either (between 55296 u 57343) (has_surrogate us)
 
 -- 1: "Sheet above 65,536 words or text above 65,536 units."
 abbrev pub is_too_long : List ℕ → List ℕ → Bool
-is_too_long s t = either (ltb 65536 (length s)) (ltb 65536 (length t))
+is_too_long s t = either (ltb sheet_limit (length s)) (ltb sheet_limit (length t))
 
 -- none of the refusals 1 to 8, or the one that decides
 abbrev pub Checked : Type 0
@@ -71,12 +72,3 @@ refusal_place WorkTooShort = 0
 refusal_place ListTooShort = 0
 refusal_place NotesTooShort = 0
 refusal_place BookTooShort = 0
-
--- the same for each answer; 0 is no refusal
-abbrev pub answer_number : Checked → ℕ
-answer_number (Ok u) = 0
-answer_number (Err r) = refusal_number r
-
-abbrev pub answer_place : Checked → ℕ
-answer_place (Ok u) = 0
-answer_place (Err r) = refusal_place r

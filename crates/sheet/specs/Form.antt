@@ -1,7 +1,9 @@
 -- Refusals 4 to 8: reading a sheet left to right, the first offence with its place, or the place behind.
 use Rattle.std.specs.Prelude.{List, [], ◌∷◌, Bool, true, false, ℕ, zero, suc, ◌+◌, ◌-◌, ltb, leb, eqb, length, get_or}
+use Rattle.recorder.specs.Numbers.{payload_size, line_size, label_size, half_size, depth_limit, least_high, too_large}
 use Rattle.recorder.specs.Word.{pick, choose, both, either, kind_at, payload_at, next, range_at}
 use Rattle.recorder.specs.declared.word.Range.{Range}
+use Rattle.sheet.specs.declared.form.Kind.TheVariants.{Range as RangeWord, Absent as AbsentWord, Label as LabelWord, Count as CountWord, Flag as FlagWord, Source as SourceWord, Element as ElementWord, Exponent as ExponentWord, Mantissa as MantissaWord, Program as ProgramWord, Line as LineWord}
 use Rattle.sheet.specs.declared.form.Item.{Item}
 use Rattle.sheet.specs.declared.form.Item.TheVariants.{Nothing, Word, Range as range, Name as name, OptionalName as optionalName, Text as text, Node, Number as number, OptionalLabel as optionalLabel, Source as source, Element as element, Datum as datum}
 use Rattle.sheet.specs.declared.form.Sort.{Sort}
@@ -50,14 +52,14 @@ is_name t at n = both (ltb 0 n) (both (is_letter (get_or t at 0)) (name_tail t (
 
 -- "02 absent, payload 0"
 abbrev pub is_absent : List ℕ → ℕ → Bool
-is_absent s at = eqb (kind_at s at) 2
+is_absent s at = eqb (kind_at s at) (kind_number AbsentWord)
 
 abbrev pub is_special : ℕ → Bool
-is_special e = either (eqb e 0) (eqb e 256)
+is_special e = either (eqb e 0) (eqb e too_large)
 
 -- "For e 0 or 256, m is 0; else m is at least 2^31": whether the halves of a mantissa may stand behind an exponent
 abbrev pub high_fits : ℕ → ℕ → Bool
-high_fits e m = pick (is_special e) (eqb m 0) (leb 32768 m)
+high_fits e m = pick (is_special e) (eqb m 0) (leb least_high m)
 
 abbrev pub low_fits : ℕ → ℕ → Bool
 low_fits e m = either (eqb m 0) (pick (is_special e) false true)
@@ -80,18 +82,18 @@ module _ (s : List ℕ) where
   take_word k n at = pick (both (eqb (kind_at s at) k) (ltb (payload_at s at) n)) (Ok (next s at)) (Err (BadWord at))
 
   abbrev pub absent_form : ℕ → Walk
-  absent_form at = take_word 2 1 at
+  absent_form at = take_word (kind_number AbsentWord) 1 at
 
   -- "04 count"; "NonEmptyVec lists have at least one"
   abbrev pub count_form : ℕ → Walk
-  count_form at = take_word 4 16777216 at
+  count_form at = take_word (kind_number CountWord) payload_size at
 
   unfoldable pub non_empty_form : ℕ → Walk
   non_empty_form at = then (count_form at) (λ p. pick (eqb (payload_at s at) 0) (Err (BadWord at)) (Ok p))
 
   -- a literal's value: "0A with exponent e (0 to 255), or 256 for too large; then two 0B words, the high and low 16 bits of m."
   abbrev pub half_form : Bool → ℕ → Walk
-  half_form fits at = then (take_word 11 65536 at) (λ p. pick fits (Ok p) (Err (BadWord at)))
+  half_form fits at = then (take_word (kind_number MantissaWord) half_size at) (λ p. pick fits (Ok p) (Err (BadWord at)))
 
   unfoldable pub high_form : ℕ → ℕ → Walk
   high_form e at = half_form (high_fits e (payload_at s at)) at
@@ -100,7 +102,7 @@ module _ (s : List ℕ) where
   low_form e at = half_form (low_fits e (payload_at s at)) at
 
   unfoldable pub number_form : ℕ → Walk
-  number_form at = then (take_word 10 257 at) (λ p. then (high_form (payload_at s at) p) (λ q. low_form (payload_at s at) q))
+  number_form at = then (take_word (kind_number ExponentWord) (too_large + 1) at) (λ p. then (high_form (payload_at s at) p) (λ q. low_form (payload_at s at) q))
 
   -- a node's head: its kind, and a case that may stand there
   abbrev pub head_form : Sort → ℕ → Walk
@@ -111,19 +113,19 @@ module _ (s : List ℕ) where
 
   module _ (line : Line) where
     unfoldable pub range_form : ℕ → Walk
-    range_form at = then (take_word 1 16777216 at) (λ p. pick (in_line line (range_at s at)) (Ok p) (Err (BadRange at)))
+    range_form at = then (take_word (kind_number RangeWord) payload_size at) (λ p. pick (in_line line (range_at s at)) (Ok p) (Err (BadRange at)))
 
     unfoldable pub text_form : ℕ → Walk
     text_form at = then (range_form at) (λ p. pick (has_unit (range_at s at)) (Ok p) (Err (BadRange at)))
 
     -- a datum is its range and whether it is quoted; "Its place is the range word, for a quoted datum too."
     unfoldable pub datum_form : ℕ → Walk
-    datum_form at = then (range_form at) (λ p. then (take_word 5 2 p)
+    datum_form at = then (range_form at) (λ p. then (take_word (kind_number FlagWord) 2 p)
         (λ q. pick (lacks_unit (payload_at s p) (range_at s at)) (Err (BadRange at)) (Ok q)))
 
     -- "absent, or range and label"
     unfoldable pub label_form : ℕ → Walk
-    label_form at = choose (is_absent s at) absent_form (λ p. then (range_form p) (λ q. take_word 3 65536 q)) at
+    label_form at = choose (is_absent s at) absent_form (λ p. then (range_form p) (λ q. take_word (kind_number LabelWord) label_size q)) at
 
 module _ (s t : List ℕ) where
   module _ (line : Line) where
@@ -155,9 +157,9 @@ module _ (s t : List ℕ) where
     item_form child text at = text_form s line at
     item_form child (Node c) at = child c at
     item_form child number at = number_form s at
-    item_form child optionalLabel at = choose (is_absent s at) (absent_form s) (take_word s 3 65536) at
-    item_form child source at = then (take_word s 7 3 at) (λ p. source_rest child (payload_at s at) p)
-    item_form child element at = then (take_word s 8 3 at) (λ p. element_rest child (payload_at s at) p)
+    item_form child optionalLabel at = choose (is_absent s at) (absent_form s) (take_word s (kind_number LabelWord) label_size) at
+    item_form child source at = then (take_word s (kind_number SourceWord) 3 at) (λ p. source_rest child (payload_at s at) p)
+    item_form child element at = then (take_word s (kind_number ElementWord) 3 at) (λ p. element_rest child (payload_at s at) p)
     item_form child datum at = datum_form s line at
 
     -- one item and another
@@ -202,11 +204,11 @@ module _ (s t : List ℕ) where
 
   -- 6: "At a line head the line lengths so far pass the text"
   unfoldable pub line_head : ℕ → ℕ → Walk
-  line_head base at = then (take_word s 16 4096 at) (λ p. pick (leb (base + payload_at s at) (length t)) (Ok p) (Err (BadLength at)))
+  line_head base at = then (take_word s (kind_number LineWord) line_size at) (λ p. pick (leb (base + payload_at s at) (length t)) (Ok p) (Err (BadLength at)))
 
   unfoldable pub line_form : ℕ → ℕ → Walk
   line_form base at =
-      then (line_head base at) (λ p. then (label_form s (line_of base at) p) (λ q. list_form (line_of base at) (node_form (line_of base at) 64 Stmt) q))
+      then (line_head base at) (λ p. then (label_form s (line_of base at) p) (λ q. list_form (line_of base at) (node_form (line_of base at) depth_limit Stmt) q))
 
   -- 4: "a word left over"; 6: "or after the last word they fall short of it"
   unfoldable pub end_form : ℕ → ℕ → Walk
@@ -218,4 +220,4 @@ module _ (s t : List ℕ) where
 
   -- "0F program: lines."
   unfoldable pub sheet_form : Walk
-  sheet_form = then (take_word s 15 16777216 0) (λ p. lines_form (payload_at s 0) 0 p)
+  sheet_form = then (take_word s (kind_number ProgramWord) payload_size 0) (λ p. lines_form (payload_at s 0) 0 p)

@@ -1,6 +1,10 @@
 pub mod Table
+pub mod Shapes
+pub mod Kinds
 pub mod Walk
 pub mod Form
 pub mod Check
+pub mod CheckAnswer
 pub mod Skip
 pub mod Tree
+pub mod Args

@@ -1,22 +1,15 @@
 -- The form of the sheet: for each case of ExprKind and StmtKind its fields, in the declared order.
 use Rattle.std.specs.Prelude.{List, [], ◌∷◌, Bool, false, ℕ, zero, suc, ltb, eqb, get_or}
+use Rattle.recorder.specs.Numbers.{label_size}
 use Rattle.recorder.specs.Word.{either}
 use Rattle.sheet.specs.declared.form.Kind.{Kind}
 use Rattle.sheet.specs.declared.form.Kind.TheVariants.{Range as RangeWord, Absent as AbsentWord, Label as LabelWord, Count as CountWord, Flag as FlagWord, Mode as ModeWord, Source as SourceWord, Element as ElementWord, Place as PlaceWord, Exponent as ExponentWord, Mantissa as MantissaWord, Program as ProgramWord, Line as LineWord, Stmt as StmtWord, Expr as ExprWord}
 use Rattle.sheet.specs.declared.form.Item.{Item}
 use Rattle.sheet.specs.declared.form.Item.TheVariants.{Nothing, Word, Range as range, Name as name, OptionalName as optionalName, Text as text, Node, Number as number, OptionalLabel as optionalLabel, Source as source, Element as element, Datum as datum}
-use Rattle.sheet.specs.declared.form.ExprKind.{ExprKind}
-use Rattle.sheet.specs.declared.form.ExprKind.TheVariants.{Ident, StringLit, NumberLit, SysFuncCall, UserFuncCall, Binary, Unary, Index, Inkey, Error}
-use Rattle.sheet.specs.declared.form.SourceKind.{SourceKind}
-use Rattle.sheet.specs.declared.form.SourceKind.TheVariants.{Keyboard, KeyboardWithPrompt, File}
-use Rattle.sheet.specs.declared.form.ElementKind.{ElementKind}
-use Rattle.sheet.specs.declared.form.ElementKind.TheVariants.{Expr as Value, Comma, Semicolon}
 use Rattle.sheet.specs.declared.form.Sort.{Sort}
 use Rattle.sheet.specs.declared.form.Sort.TheVariants.{Expr, Place, InputPlace, Stmt}
 use Rattle.sheet.specs.declared.form.Times.TheVariants.{Once, Optional, List as Listed, NonEmpty, OptionalList}
 use Rattle.sheet.specs.declared.form.Field.{Field}
-use Rattle.sheet.specs.declared.form.Shape.{Shape}
-use Rattle.sheet.specs.declared.form.Shape.TheVariants.{Rem, NoOp, Op0, Run, Op1, Op2, Op3, Draw, Set, Data, Def, Dim, Field as Fields, For, GoSub, GoTo, If, Input, Let, Load, Locate, Next, On, Open, Print, Read, Restore, Swap, System, While, Write}
 
 -- "A word's top 8 bits are its kind (hexadecimal below)": 01 range, 02 absent, 03 label, 04 count, 05 yes or no, 06 file mode,
 -- 07 input source, 08 print element, 09 a place in an enum of operations, 0A and 0B a literal's exponent and the halves of its
@@ -41,7 +34,7 @@ kind_number ExprWord = 33
 -- words of one kind: "03 label, 0 to 65,535"; "05 yes or no, 1 or 0"; "06 file mode: 0 Error, 1 Random, then from 2 FileMode's
 -- other cases"; "09 a place in SysFuncKind, BinaryOpKind or UnaryOpKind"
 abbrev pub label : Item
-label = Word LabelWord 65536
+label = Word LabelWord label_size
 
 abbrev pub flag : Item
 flag = Word FlagWord 2
@@ -108,20 +101,6 @@ expr_table =
     ∷ []  -- 8 Inkey
     ∷ []  -- 9 Error
     ∷ []
-
--- the cases of ExprKind by their numbers; what is no case reads as Error
-abbrev pub expr_kinds : List ExprKind
-expr_kinds = Ident ∷ StringLit ∷ NumberLit ∷ SysFuncCall ∷ UserFuncCall ∷ Binary ∷ Unary ∷ Index ∷ Inkey ∷ Error ∷ []
-
-unfoldable pub expr_kind : ℕ → ExprKind
-expr_kind k = get_or expr_kinds k Error
-
--- INPUT's sources and PRINT's elements by their numbers; every larger number reads as the last
-unfoldable pub source_kind : ℕ → SourceKind
-source_kind k = get_or (Keyboard ∷ KeyboardWithPrompt ∷ []) k File
-
-unfoldable pub element_kind : ℕ → ElementKind
-element_kind k = get_or (Value ∷ Comma ∷ []) k Semicolon
 
 -- StmtKind
 abbrev pub stmt_table : List (List Field)
@@ -206,40 +185,6 @@ expr_fields k = get_or expr_table k []
 
 unfoldable pub stmt_fields : ℕ → List Field
 stmt_fields k = get_or stmt_table k []
-
--- the same by shape: the cases of one shape have the same fields
-abbrev pub shape_fields : Shape → List Field
-shape_fields Rem = one range ∷ []
-shape_fields NoOp = []
-shape_fields Op0 = []
-shape_fields Run = one range ∷ []
-shape_fields Op1 = one expr ∷ []
-shape_fields Op2 = one expr ∷ one expr ∷ []
-shape_fields Op3 = one expr ∷ one expr ∷ one expr ∷ []
-shape_fields Draw = non_empty expr ∷ []
-shape_fields Set = one place ∷ one expr ∷ []
-shape_fields Data = non_empty datum ∷ []
-shape_fields Def = one optionalName ∷ one optionalName ∷ one expr ∷ []
-shape_fields Dim = non_empty expr ∷ []
-shape_fields Fields = one expr ∷ non_empty₂ expr place ∷ []
-shape_fields For = one optionalName ∷ one expr ∷ one expr ∷ optional expr ∷ []
-shape_fields GoSub = optional₂ range label ∷ []
-shape_fields GoTo = one flag ∷ optional₂ range label ∷ []
-shape_fields If = one expr ∷ list stmt ∷ optional_list stmt ∷ []
-shape_fields Input = one source ∷ non_empty input_place ∷ []
-shape_fields Let = one place ∷ one expr ∷ []
-shape_fields Load = non_empty expr ∷ []
-shape_fields Locate = optional expr ∷ optional expr ∷ []
-shape_fields Next = list optionalName ∷ []
-shape_fields On = one expr ∷ non_empty₂ range optionalLabel ∷ one flag ∷ []
-shape_fields Open = one expr ∷ one mode ∷ one expr ∷ optional₂ range expr ∷ []
-shape_fields Print = list element ∷ []
-shape_fields Read = non_empty place ∷ []
-shape_fields Restore = optional₂ range label ∷ []
-shape_fields Swap = one place ∷ one place ∷ []
-shape_fields System = []
-shape_fields While = one expr ∷ []
-shape_fields Write = optional expr ∷ non_empty₂ expr flag ∷ []
 
 -- "20 statement: payload the place of its case in StmtKind, from 0 ... 21 expression: the place in ExprKind"
 abbrev pub node_kind : Sort → ℕ

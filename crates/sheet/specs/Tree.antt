@@ -1,5 +1,6 @@
 -- The tree that a sheet holds, and how it is read from there. Every reader is total: what the form refuses reads as something.
 use Rattle.std.specs.Prelude.{List, [], ◌∷◌, ℕ, zero, suc, ◌+◌, ◌*◌, ◌%◌, get_or}
+use Rattle.recorder.specs.Numbers.{half_size, depth_limit}
 use Rattle.recorder.specs.Word.{choose, payload_at, next, range_at, label_at}
 use Rattle.recorder.specs.declared.word.Range.{Range}
 use Rattle.sheet.specs.declared.form.Sort.TheVariants.{Expr as exprSort, Place as placeSort, InputPlace as inputSort, Stmt as stmtSort}
@@ -151,7 +152,7 @@ shape_of k = get_or shape_table k NoOp
 module _ (s : List ℕ) where
   -- the value of a literal: e, and m from its high and low 16 bits
   abbrev pub mantissa_at : ℕ → ℕ
-  mantissa_at at = payload_at s at % 65536 * 65536 + payload_at s (next s at) % 65536
+  mantissa_at at = payload_at s at % half_size * half_size + payload_at s (next s at) % half_size
 
   abbrev pub opt_at : {A : Type 0} → (ℕ → A) → ℕ → Opt A
   opt_at f at = choose (is_absent s at) (λ p. absent) (λ p. given (f p)) at
@@ -193,10 +194,6 @@ module _ (s : List ℕ) where
   unfoldable pub expr_at : ℕ → ℕ → Expr
   expr_at zero at = error (range_at s (next s at))
   expr_at (suc left) at = expr_node (expr_at left) (skip_node s left exprSort) (payload_at s at) (range_at s (next s at)) (next s (next s at))
-
-  -- n expressions from a place on
-  abbrev pub args_at : ℕ → ℕ → ℕ → Exprs
-  args_at left n at = exprs_at (expr_at left) (skip_node s left exprSort) n at
 
   unfoldable pub stmts_at : (ℕ → Stmt) → (ℕ → ℕ) → ℕ → ℕ → Stmts
   stmts_at f skip zero at = end
@@ -311,13 +308,13 @@ module _ (s : List ℕ) where
   behind_label at = choose (is_absent s at) (next s) (λ p. next s (next s p)) at
 
   abbrev pub line_stmts : ℕ → Stmts
-  line_stmts at = stmts_at (stmt_at 64) (skip_node s 64 stmtSort) (payload_at s at) (next s at)
+  line_stmts at = stmts_at (stmt_at depth_limit) (skip_node s depth_limit stmtSort) (payload_at s at) (next s at)
 
   abbrev pub line_at : ℕ → ProgramLine
   line_at at = record { length = payload_at s at; label = opt_at target_at (next s at); stmts = line_stmts (behind_label (next s at)) }
 
   abbrev pub behind_line : ℕ → ℕ
-  behind_line at = skip_list s (skip_node s 64 stmtSort) (behind_label (next s at))
+  behind_line at = skip_list s (skip_node s depth_limit stmtSort) (behind_label (next s at))
 
   -- the program: its lines
   unfoldable pub program_at : List ProgramLine

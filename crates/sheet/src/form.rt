@@ -1,8 +1,12 @@
 // The form of the sheet: what may stand at a place of it, and what reading there finds.
 ghost use Rattle.std.specs.Prelude.{◌≡◌};
 ghost use Rattle.sheet.specs.declared.form.Refusal.TheVariants.{Offends};
-ghost use Rattle.sheet.specs.Table.{kind_number, node_kind, may_stand, own_range, is_fseek, expr_kind, source_kind, element_kind, expr_fields, shape_fields};
+ghost use Rattle.sheet.specs.Table.{kind_number, node_kind, may_stand, own_range, is_fseek, expr_fields};
+ghost use Rattle.sheet.specs.Kinds.{expr_kind, source_kind, element_kind};
+ghost use Rattle.sheet.specs.Shapes.{shape_fields};
 ghost use Rattle.sheet.specs.Check.{offence_number, offence_place, refusal_number, refusal_place};
+
+use recorder::number::LABEL_SIZE;
 
 // The kinds of the sheet's words, by document 01's numbers. A place is one in SysFuncKind, BinaryOpKind or UnaryOpKind; the value of
 // a number literal is an exponent and the two halves of a mantissa.
@@ -180,6 +184,11 @@ pub struct LineForm<'a> {
     pub line: Line,
 }
 
+// How many cases SysFuncKind and BinaryOpKind have.
+pub const FUNCTIONS: u32 = 34;
+
+pub const BINARY_OPS: u32 = 13;
+
 // The fields that statements and expressions are made of.
 const EXPR: Field = Field {
     times: Times::Once,
@@ -243,13 +252,13 @@ const NUMBER: Field = Field {
 
 const SYS_FUNC: Field = Field {
     times: Times::Once,
-    first: Item::Word(Kind::Place, 34),
+    first: Item::Word(Kind::Place, FUNCTIONS),
     second: Item::Nothing,
 };
 
 const BINARY_OP: Field = Field {
     times: Times::Once,
-    first: Item::Word(Kind::Place, 13),
+    first: Item::Word(Kind::Place, BINARY_OPS),
     second: Item::Nothing,
 };
 
@@ -304,7 +313,7 @@ const OPTIONAL_STMTS: Field = Field {
 const TARGET: Field = Field {
     times: Times::Optional,
     first: Item::Range,
-    second: Item::Word(Kind::Label, 65536),
+    second: Item::Word(Kind::Label, LABEL_SIZE),
 };
 
 const TARGETS: Field = Field {
@@ -338,7 +347,7 @@ const FSEEK: u32 = 69;
 impl ExprKind {
     // The case of a number; what is no case is Error.
     #[inline(always)]
-    #[tactic(auto, unfolding(crate::specs::Table::expr_kind))]
+    #[tactic(auto, unfolding(crate::specs::Kinds::expr_kind))]
     pub fn of(k: u32) -> ExprKind
         ensures { result ≡ expr_kind k }
     {
@@ -360,7 +369,7 @@ impl ExprKind {
 impl SourceKind {
     // The source of a number; every larger one is File.
     #[inline(always)]
-    #[tactic(auto, unfolding(crate::specs::Table::source_kind))]
+    #[tactic(auto, unfolding(crate::specs::Kinds::source_kind))]
     pub fn of(k: u32) -> SourceKind
         ensures { result ≡ source_kind k }
     {
@@ -375,7 +384,7 @@ impl SourceKind {
 impl ElementKind {
     // The element of a number; every larger one is Semicolon.
     #[inline(always)]
-    #[tactic(auto, unfolding(crate::specs::Table::element_kind))]
+    #[tactic(auto, unfolding(crate::specs::Kinds::element_kind))]
     pub fn of(k: u32) -> ElementKind
         ensures { result ≡ element_kind k }
     {

@@ -2,11 +2,13 @@
 // through memory where it is returned.
 // sheet and at go by themselves, not as a Reader: at is what the call before gave, and a Reader would be made for each.
 ghost use Rattle.std.specs.Prelude.{◌≡◌, ◌+◌, ◌-◌, length};
+ghost use Rattle.recorder.specs.Numbers.{label_size};
 ghost use Rattle.recorder.specs.Word.{choose};
 ghost use Rattle.sheet.specs.Table.{kind_number};
 ghost use Rattle.sheet.specs.Form.{is_letter, is_alnum, is_inner, is_last, name_tail, is_name, is_absent, has_unit, in_line, take_word, absent_form, non_empty_form, half_form, number_form, head_form, range_form, text_form, name_form, datum_form, label_form, high_fits, low_fits, lacks_unit};
 
 use crate::form::{Kind, Line, LineForm, Offence, Sort, Walk};
+use recorder::number::{HALF_SIZE, LABEL_SIZE, LEAST_HIGH, PAYLOAD_SIZE, TOO_LARGE};
 use recorder::unit::{BLANK, DOLLAR, LOWER_A, LOWER_Z, NINE, PERCENT, UPPER_A, UPPER_Z, ZERO};
 use recorder::word::{Range, behind, kind_at, payload_at, range_at, unit_at};
 
@@ -111,7 +113,7 @@ pub fn absent_form(sheet: &[u32], at: usize) -> Walk
 pub fn non_empty_form(sheet: &[u32], at: usize) -> Walk
     ensures { result ≡ non_empty_form sheet.now at }
 {
-    let p = take_word(sheet, Kind::Count, 16777216, at)?;
+    let p = take_word(sheet, Kind::Count, PAYLOAD_SIZE, at)?;
     if payload_at(sheet, at) == 0 {
         Err(Offence::BadWord(at))
     } else {
@@ -123,17 +125,17 @@ pub fn non_empty_form(sheet: &[u32], at: usize) -> Walk
 fn high_fits(e: u32, m: u32) -> bool
     ensures { result ≡ high_fits e m }
 {
-    if matches!(e, 0 | 256) {
+    if matches!(e, 0 | TOO_LARGE) {
         m == 0
     } else {
-        32768 <= m
+        LEAST_HIGH <= m
     }
 }
 
 fn low_fits(e: u32, m: u32) -> bool
     ensures { result ≡ low_fits e m }
 {
-    m == 0 || !matches!(e, 0 | 256)
+    m == 0 || !matches!(e, 0 | TOO_LARGE)
 }
 
 // One half of a mantissa.
@@ -141,7 +143,7 @@ fn low_fits(e: u32, m: u32) -> bool
 fn half_form(sheet: &[u32], fits: bool, at: usize) -> Walk
     ensures { result ≡ half_form sheet.now fits at }
 {
-    let p = take_word(sheet, Kind::Mantissa, 65536, at)?;
+    let p = take_word(sheet, Kind::Mantissa, HALF_SIZE, at)?;
     if fits {
         Ok(p)
     } else {
@@ -155,7 +157,7 @@ fn half_form(sheet: &[u32], fits: bool, at: usize) -> Walk
 pub fn number_form(sheet: &[u32], at: usize) -> Walk
     ensures { result ≡ number_form sheet.now at }
 {
-    let p = take_word(sheet, Kind::Exponent, 257, at)?;
+    let p = take_word(sheet, Kind::Exponent, TOO_LARGE + 1, at)?;
     let e = payload_at(sheet, at);
     let q = half_form(sheet, high_fits(e, payload_at(sheet, p)), p)?;
     half_form(sheet, low_fits(e, payload_at(sheet, q)), q)
@@ -176,12 +178,12 @@ pub fn head_form(sheet: &[u32], c: Sort, at: usize) -> Walk
 }
 
 pub fn optional_label_form(sheet: &[u32], at: usize) -> Walk
-    ensures { result ≡ choose (is_absent sheet.now at) (absent_form sheet.now) (take_word sheet.now 3 65536) at }
+    ensures { result ≡ choose (is_absent sheet.now at) (absent_form sheet.now) (take_word sheet.now 3 label_size) at }
 {
     if is_absent(sheet, at) {
         absent_form(sheet, at)
     } else {
-        take_word(sheet, Kind::Label, 65536, at)
+        take_word(sheet, Kind::Label, LABEL_SIZE, at)
     }
 }
 
@@ -199,7 +201,7 @@ impl LineForm<'_> {
     pub fn range_form(&self, at: usize) -> Walk
         ensures { result ≡ range_form self.now.sheet.now self.now.line at }
     {
-        let p = take_word(self.sheet, Kind::Range, 16777216, at)?;
+        let p = take_word(self.sheet, Kind::Range, PAYLOAD_SIZE, at)?;
         if in_line(self.line, range_at(self.sheet, at)) {
             Ok(p)
         } else {
@@ -267,6 +269,6 @@ impl LineForm<'_> {
             return absent_form(self.sheet, at);
         }
         let p = self.range_form(at)?;
-        take_word(self.sheet, Kind::Label, 65536, p)
+        take_word(self.sheet, Kind::Label, LABEL_SIZE, p)
     }
 }

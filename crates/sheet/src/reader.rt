@@ -1,18 +1,11 @@
 // A reader of the sheet: its words and a place in them. Few thin functions; each leaves the work to one over plain slices.
-ghost use Rattle.std.specs.Prelude.{◌≡◌, get_or, drop};
+ghost use Rattle.std.specs.Prelude.{◌≡◌};
 ghost use Rattle.recorder.specs.Word.{payload_at, next};
 
 #[derive(Clone, Copy)]
 pub struct Reader<'a> {
     pub words: &'a [u32],
     pub at: usize,
-}
-
-// The words from a place on; none behind the end.
-fn from<'a>(words: &'a [u32], at: usize) -> &'a [u32]
-    ensures { result.now ≡ drop at words.now }
-{
-    words.get(at..).unwrap_or_default()
 }
 
 impl<'a> Reader<'a> {
@@ -23,14 +16,7 @@ impl<'a> Reader<'a> {
         Self { words, at }
     }
 
-    // The word at its place, 0 behind the end.
-    pub fn word(self) -> u32
-        ensures { result ≡ get_or self.entry.words.now self.entry.at 0 }
-    {
-        recorder::word::word_at(self.words, self.at)
-    }
-
-    // The payload of that word.
+    // The payload of the word at its place, 0 behind the end.
     pub fn payload(self) -> u32
         ensures { result ≡ payload_at self.entry.words.now self.entry.at }
     {
@@ -45,13 +31,6 @@ impl<'a> Reader<'a> {
             words: self.words,
             at: recorder::word::behind(self.words, self.at),
         }
-    }
-
-    // The words from its place on.
-    pub fn rest(self) -> &'a [u32]
-        ensures { result.now ≡ drop self.entry.at self.entry.words.now }
-    {
-        crate::reader::from(self.words, self.at)
     }
 }
 

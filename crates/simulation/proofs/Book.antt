@@ -17,7 +17,7 @@ use Rattle.recorder.specs.Ideal.{Entry, entry, Search, missing, found, is_named,
 use Rattle.recorder.specs.Layout.{entry_words, words_of, fill}
 use Rattle.recorder.specs.Mem.{sigil_code, sigil_of, tag_of, name_tag, hash_of, lookup, four, unlink_at, unlink_from}
 use Rattle.recorder.proofs.Words.{head_kind, length_snoc, put4, words_snoc, length_words4}
-use Rattle.recorder.proofs.Bools.{never}
+use Rattle.recorder.proofs.Bools.{true_not_false}
 use Rattle.simulation.proofs.Simulation.{Sigil}
 use Rattle.simulation.proofs.Tree.{Tree, code_whole, tag_high, same_hash}
 
@@ -132,7 +132,7 @@ small_snoc (x ∷ es) e h i = go (ltb x.number 16777216) h (λ g. small_snoc es 
   where
     go : (c : Bool) → both c (all_small es) ≡ true → (all_small es ≡ true → all_small (es ++ (e ∷ [])) ≡ true) → both c (all_small (es ++ (e ∷ []))) ≡ true
     go true g q = q g
-    go false g q = never (sym g)
+    go false g q = true_not_false (sym g)
 
 -- sigils are the same where their codes are
 code_same : (c g : ℕ) → sigil_code (sigil_of c) ≡ c → Sigil g → eqb c (sigil_code g) ≡ eqb (sigil_of c) g
@@ -142,10 +142,10 @@ code_same c g p q = go (ℕ_discrete c (sigil_code g))
     go (yes d) = eq-eqb c (sigil_code g) d ∙ sym (eq-eqb (sigil_of c) g (ap sigil_of d ∙ q))
     go (no d) = ne_eqb c (sigil_code g) d ∙ sym (ne_eqb (sigil_of c) g (λ e. d (sym p ∙ ap sigil_code e)))
 
-guarded : (c f : Bool) → (f ≡ true → c ≡ true) → pick c f false ≡ f
-guarded true f h = refl
-guarded false true h = never (sym (h refl))
-guarded false false h = refl
+pick_implied : (c f : Bool) → (f ≡ true → c ≡ true) → pick c f false ≡ f
+pick_implied true f h = refl
+pick_implied false true h = true_not_false (sym (h refl))
+pick_implied false false h = refl
 
 -- names compared by the codes of their sigils
 by_codes : (t : List ℕ) (a m c x n g : ℕ) → sigil_code (sigil_of c) ≡ c → Sigil g → same_name t a m c x n (sigil_code g) ≡ same_name t a m (sigil_of c) x n g
@@ -162,7 +162,7 @@ named_same t y x n g p h v f = go (dec_lt 127 y.kind)
     go : Dec (127 < y.kind) → pick (eqb y.kind (name_tag t x n g)) (same_name t y.start y.length (y.extra % 4) x n (sigil_code g)) false
         ≡ is_named t (pick (ltb 127 y.kind) (entry 50 y.number y.start y.length (sigil_of (y.extra % 4))) y) x n g
     go (yes d) = rw (lt-ltb 127 y.kind d)
-        (guarded (eqb y.kind (name_tag t x n g)) (same_name t y.start y.length (y.extra % 4) x n (sigil_code g))
+        (pick_implied (eqb y.kind (name_tag t x n g)) (same_name t y.start y.length (y.extra % 4) x n (sigil_code g))
         (λ e. eq-eqb y.kind (name_tag t x n g) (v d ∙ ap tag_of (same_hash t y.start y.length (y.extra % 4) x n g e)))
         ∙ by_codes t y.start y.length (y.extra % 4) x n g (h d) p)
     go (no d) =
@@ -197,7 +197,7 @@ lookup_finds t b x n g k end ps (y ∷ es) zs v e p l r c s =
         → Finds (pick c (found (bare y).number) (find_name t (bares es) x n g)) end (pick c k (lookup t b x n g (k + 1) (length es))) b
     go true w true d i q = (omega arith, rw w (let o = ltb-true (bare y).number 16777216 d in let u = bare_number y in omega arith))
     go false w true d i q = q i
-    go c w false d i q = never (sym i)
+    go c w false d i q = true_not_false (sym i)
 
 -- closing up: tags and links are gone
 head_at : (ps : List Entry) (h v : ℕ) (zs b : List ℕ) (i : ℕ) → b ≡ words_of entry_words ps ++ (h ∷ zs) → length ps ≡ i → set b (4 * i) v ≡ words_of entry_words ps ++ (v ∷ zs)

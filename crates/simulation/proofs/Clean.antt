@@ -16,7 +16,8 @@ use Rattle.recorder.proofs.Words.{length_snoc, change_length}
 use Rattle.simulation.proofs.Hide.{hide_rec, hide, hide_false, all_fresh}
 use Rattle.recorder.specs.declared.codegen.State.{State}
 use Rattle.simulation.proofs.States.{with_records, with_notes, put_form}
-use Rattle.simulation.proofs.Sim.{Held, held_fits, held_count, Listed, listed_emit, Exact}
+use Rattle.simulation.specs.Held.{Held, Exact}
+use Rattle.simulation.proofs.Sim.{held_fits, held_count, Listed, listed_emit}
 use Rattle.simulation.proofs.Delays.{Holds, delays_hold}
 use Rattle.simulation.proofs.Whiles.{run_p, run_w, Below, below_length, notes_of, all_closed, all_noted}
 use Rattle.simulation.proofs.WhileWords.{Linked, linked, run_words, run_below, Unknown, run_unknown, Opened, open_all}

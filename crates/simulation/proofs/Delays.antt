@@ -13,7 +13,7 @@ use Rattle.recorder.specs.Ideal.{Rec, rec, no_rec, change}
 use Rattle.recorder.specs.Layout.{rec_words, words_of, fill}
 use Rattle.recorder.specs.Closing.{is_start, is_end, is_one, is_for, is_next_of, rec_at, is_delay, is_stepped_delay, round_up, no_op, sleep, whole_end, delayed, stepped_delayed, delay_from, delays}
 use Rattle.recorder.specs.Mem.{rec_of, at_rec, rewrite, whole_at, delay_at, stepped_at, delayed_at, stepped_delayed_at, delay_list, delays_from}
-use Rattle.recorder.proofs.Words.{head_again, change_length, squash, rec_of_lem}
+use Rattle.recorder.proofs.Words.{head_again, change_length, cut_rec, rec_of_lem}
 use Rattle.recorder.proofs.Bools.{both_parts}
 use Rattle.simulation.proofs.Change.{change_same, change_none}
 use Rattle.simulation.proofs.Sim.{at_words, at_long}
@@ -24,7 +24,7 @@ pub record Holds (size : ℕ) (rs : List Rec) (l : List ℕ) : Type 0 where
   pub long : length l ≡ size
   pub room : length rs ≤ size / 5
 
-pub holds_rec : {size : ℕ} {rs : List Rec} {l : List ℕ} → Holds size rs l → (k : ℕ) → rec_of l k ≡ squash (get_or rs k no_rec)
+pub holds_rec : {size : ℕ} {rs : List Rec} {l : List ℕ} → Holds size rs l → (k : ℕ) → rec_of l k ≡ cut_rec (get_or rs k no_rec)
 holds_rec {size} {rs} {l} h k = rw h.words_are (rec_of_lem rs (size - length (words_of rec_words rs)) k)
 
 -- a record written is a record changed
@@ -47,7 +47,7 @@ holds_whole {size} {rs} {l} h k i = rw (ap (λ (z : Rec). z.call) q, ap (λ (z :
     r : Rec
     r = get_or rs k no_rec
 
-    q : rec_of l k ≡ squash r
+    q : rec_of l k ≡ cut_rec r
     q = holds_rec h k
 
     go : (c : Bool) → eqb (get_or rs k no_rec).call 3 ≡ c

@@ -83,28 +83,28 @@ change_hidden b f g (r ∷ rs) (i ∷ is) (suc k) e w =
     rw (h, change_hidden b f g rs is k t w)
 
 -- a change that does not read what is hidden
-pub blind_same : (b : Bool) (f : Rec → Rec) (r i : Rec) → ((x : Rec) → hide_rec b (f x) ≡ hide_rec b (f (hide_rec b x))) → hide_rec b r ≡ hide_rec b i → hide_rec b (f r) ≡ hide_rec b (f i)
-blind_same b f r i h e = h r ∙ ap (λ (z : Rec). hide_rec b (f z)) e ∙ sym (h i)
+pub hide_change : (b : Bool) (f : Rec → Rec) (r i : Rec) → ((x : Rec) → hide_rec b (f x) ≡ hide_rec b (f (hide_rec b x))) → hide_rec b r ≡ hide_rec b i → hide_rec b (f r) ≡ hide_rec b (f i)
+hide_change b f r i h e = h r ∙ ap (λ (z : Rec). hide_rec b (f z)) e ∙ sym (h i)
 
-pub blind_a : (b : Bool) (v : ℕ) (r : Rec) → hide_rec b (with_a v r) ≡ hide_rec b (with_a v (hide_rec b r))
+pub hide_with_a : (b : Bool) (v : ℕ) (r : Rec) → hide_rec b (with_a v r) ≡ hide_rec b (with_a v (hide_rec b r))
 unfolding hide_rec
-blind_a true v r = rw (pick_twice (twice r.call) 0 r.b)
-blind_a false v r = refl
+hide_with_a true v r = rw (pick_twice (twice r.call) 0 r.b)
+hide_with_a false v r = refl
 
-pub blind_c : (b : Bool) (v : ℕ) (r : Rec) → hide_rec b (with_c v r) ≡ hide_rec b (with_c v (hide_rec b r))
+pub hide_with_c : (b : Bool) (v : ℕ) (r : Rec) → hide_rec b (with_c v r) ≡ hide_rec b (with_c v (hide_rec b r))
 unfolding hide_rec
-blind_c true v r = rw (pick_twice (numbered r.call) 0 r.a, pick_twice (twice r.call) 0 r.b)
-blind_c false v r = refl
+hide_with_c true v r = rw (pick_twice (numbered r.call) 0 r.a, pick_twice (twice r.call) 0 r.b)
+hide_with_c false v r = refl
 
-pub blind_settled : (b : Bool) (v : ℕ) (r : Rec) → hide_rec b (settled v r) ≡ hide_rec b (settled v (hide_rec b r))
+pub hide_settled : (b : Bool) (v : ℕ) (r : Rec) → hide_rec b (settled v r) ≡ hide_rec b (settled v (hide_rec b r))
 unfolding hide_rec
-blind_settled true v r = refl
-blind_settled false v r = refl
+hide_settled true v r = refl
+hide_settled false v r = refl
 
-pub blind_unlabelled : (b : Bool) (r : Rec) → hide_rec b (unlabelled r) ≡ hide_rec b (unlabelled (hide_rec b r))
+pub hide_unlabelled : (b : Bool) (r : Rec) → hide_rec b (unlabelled r) ≡ hide_rec b (unlabelled (hide_rec b r))
 unfolding hide_rec
-blind_unlabelled true r = rw (pick_twice (numbered r.call) 0 r.a)
-blind_unlabelled false r = refl
+hide_unlabelled true r = rw (pick_twice (numbered r.call) 0 r.a)
+hide_unlabelled false r = refl
 
 -- numbers may differ where they are hidden
 pub hide_number : (b : Bool) (k l : ℕ) (r : Range) (x y z c : ℕ) → numbered k ≡ true → (b ≡ false → x ≡ y) → hide_rec b (rec k l r x z c) ≡ hide_rec b (rec k l r y z c)

@@ -18,7 +18,8 @@ use Rattle.simulation.proofs.States.{line_stays, put_stays, note_stays, symbol_s
 use Rattle.simulation.proofs.Simulation.{Simulation}
 use Rattle.simulation.proofs.Tree.{Tree}
 use Rattle.simulation.proofs.Book.{bares, all_small}
-use Rattle.simulation.proofs.Sim.{Sim, Held, Later, Fits, Room, held_count, held_fits, same_length, unlinked_exact, listed_look, list_full_lem, book_full_lem, count_is, first_word, sim_line, sim_emit, sim_note_at, sim_note, sim_datum, sim_byte, sim_symbol, sim_symbol_number, sim_patch, sim_patch_end, sim_settle, sim_settle_number, sim_drop_label}
+use Rattle.simulation.specs.Held.{Held}
+use Rattle.simulation.proofs.Sim.{Sim, Later, Fits, Room, held_count, held_fits, same_length, unlinked_exact, listed_look, list_full_lem, book_full_lem, count_is, first_word, sim_line, sim_emit, sim_note_at, sim_note, sim_datum, sim_byte, sim_symbol, sim_symbol_number, sim_patch, sim_patch_end, sim_settle, sim_settle_number, sim_drop_label}
 use Rattle.simulation.proofs.Delays.{Holds}
 use Rattle.simulation.proofs.WhileWords.{Opened}
 use Rattle.simulation.proofs.Clean.{Done, hide_notes, same_records, whiles_are, clean_done}

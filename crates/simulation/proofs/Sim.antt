@@ -3,7 +3,7 @@ use Rattle.std.specs.Prelude.{Option, None, Some, unwrap_or}
 use mathlib.Core.Path.{◌≡◌, refl, sym, ap, ◌∙◌}
 use mathlib.Core.List.{List, [], ◌∷◌, ◌++◌}
 use mathlib.Core.Bool.{Bool, true, false}
-use Prim.Native.Nat.{ℕ, zero, suc, ◌+◌, ◌*◌, ◌-◌, ◌≤◌, ◌<◌, ◌/◌, ◌%◌, min}
+use Prim.Native.Nat.{ℕ, zero, suc, ◌+◌, ◌*◌, ◌-◌, ◌≤◌, ◌<◌, ◌/◌, ◌%◌}
 use lib.Dec.{ltb, eqb}
 use lib.ListN.{length, get_or, set, take, drop, replicate, length-append, length-set, length-take, length-drop}
 use borrow.Author.Tests.{lt-ltb, le-ltb, ltb-true, ltb-false, ne_eqb}
@@ -12,23 +12,20 @@ use native.Mathlib.Numerals.{add-one}
 use native.Mathlib.Omega.{arith}
 use Rattle.recorder.specs.declared.word.Range.{Range}
 use Rattle.recorder.specs.declared.label.DatumIndex.{DatumIndex}
-use Rattle.recorder.specs.Word.{pick, kind, payload_at, word_of, range_word, plus_one}
+use Rattle.recorder.specs.Word.{pick, kind, payload_at, word_of, range_word}
+use Rattle.recorder.specs.Optional.{plus_one}
 use Rattle.recorder.specs.Ideal.{Rec, rec, note_of, Entry, entry, Ideal, ideal, ideal_r, how_many, next_number, added, Search, missing, found, find_name, symbol_in, symbol_of, change, with_a, with_c, settled, unlabelled, no_rec, look_of, first_of}
 use Rattle.recorder.specs.Layout.{rec_words, note_words, entry_words, words_of, fill, most_records}
 use Rattle.recorder.specs.Mem.{Mem, mem, mem_r, records_in, line_in, datum_word, first_in, list_full, book_full, as_word, low, more, put_list, four, note_list, entry_list, sigil_code, hash_of, name_tag, with_link, known, descent_to, entry_of, linked, root_of, unlink_from, unlinked, symbol_number, symbol_list, symbol_st, datum_list, datum_st, byte_list, byte_st, part, at_rec, on_rec, set_a, set_c, settle_args, clear_args, rec_of, look_at}
-use Rattle.recorder.proofs.Words.{head_kind, length_snoc, put5, put4, words_snoc, length_words4, length_words, change_length, change_out, change_words, squash, rec_of_lem}
-use Rattle.recorder.proofs.Bools.{never}
-use Rattle.simulation.proofs.Hide.{fresh, hide_rec, hide, hide_length, hide_snoc, hide_true, hide_at, change_hidden, blind_same, blind_a, blind_c, blind_settled, blind_unlabelled, hide_number, hide_call, hide_line, hide_c, hide_b, fresh_rec, all_fresh, fresh_snoc, fresh_at, fresh_change}
+use Rattle.recorder.proofs.Words.{head_kind, length_snoc, put5, put4, words_snoc, length_words4, length_words, change_length, change_out, change_words, cut_rec, rec_of_lem}
+use Rattle.recorder.proofs.Bools.{true_not_false}
+use Rattle.simulation.specs.Held.{Held, Exact}
+use Rattle.simulation.proofs.Hide.{fresh, hide_rec, hide, hide_length, hide_snoc, hide_true, hide_at, change_hidden, hide_change, hide_with_a, hide_with_c, hide_settled, hide_unlabelled, hide_number, hide_call, hide_line, hide_c, hide_b, fresh_rec, all_fresh, fresh_snoc, fresh_at, fresh_change}
 use Rattle.recorder.specs.declared.codegen.State.{State}
 use Rattle.simulation.proofs.States.{with_entries, with_names, with_data, with_bytes, with_line, put_in, note_in, entry_in, put_form, note_form, entry_form, Stays}
 use Rattle.simulation.proofs.Simulation.{Sigil, Looks, SameLine}
 use Rattle.simulation.proofs.Tree.{side, Tree, Linking, from_none, from_name, linking, link_code, tree_other, tree_name, linked_length, tag_high, seek_is}
 use Rattle.simulation.proofs.Book.{bare, bares, bares_length, bares_snoc, bare_name, bare_other, relink, put_entry, all_small, small_snoc, Finds, lookup_finds, unlink_all, unlink_length}
-
--- a count that stays where the room ends, and a flag that says so
-pub record Held (cap n count : ℕ) (full : Bool) : Type 0 where
-  pub number : count ≡ min n cap
-  pub flag : full ≡ ltb cap n
 
 pub held_room : {cap n count : ℕ} {full : Bool} → Held cap n count full → n < cap → ltb count cap ≡ true
 held_room {cap} {n} {count} h l = lt-ltb count cap (omega (arith, h.number))
@@ -95,7 +92,7 @@ listed_emit size is l st i j s e = go (dec_lt (length is) (most_records size))
     go (no d) = rw (s.long, held_none s.held (omega arith)) (record {
       long = s.long;
       held = rw (length_snoc is i) (held_out s.held (omega arith));
-      same = λ f. never f;
+      same = λ f. true_not_false f;
     })
 
 -- a record changed
@@ -176,7 +173,7 @@ listed_look size is l n full b k s f =
     let x : Rec = get_or is k no_rec in
     let y : Rec = get_or q.rs k no_rec in
     let a : hide_rec b y ≡ hide_rec b x = sym (hide_at b q.rs k) ∙ ap (λ (z : List Rec). get_or z k no_rec) q.hidden ∙ hide_at b is k in
-    let w : rec_of l k ≡ squash y = rw q.words_are (rec_of_lem q.rs (size - length (words_of rec_words q.rs)) k) in
+    let w : rec_of l k ≡ cut_rec y = rw q.words_are (rec_of_lem q.rs (size - length (words_of rec_words q.rs)) k) in
     let c : y.call ≡ x.call = sym (hide_call b y) ∙ ap (λ (z : Rec). z.call) a ∙ hide_call b x in
     record {
       call = sym c ∙ sym (ap (λ (z : Rec). z.call) w);
@@ -187,12 +184,7 @@ listed_look size is l n full b k s f =
       c = sym (hide_c b x) ∙ sym (ap (λ (z : Rec). z.c) a) ∙ hide_c b y ∙ sym (ap (λ (z : Rec). z.c) w);
     }
 
--- the notes and the book: four words each
-pub record Exact {A : Type 0} (f : A → List ℕ) (size : ℕ) (is : List A) (l : List ℕ) (count : ℕ) (full : Bool) : Type 0 where
-  pub long : length l ≡ size
-  pub held : Held (size / 4) (length is) count full
-  pub same : full ≡ false → l ≡ fill size (words_of f is)
-
+-- the notes and the book
 pub exact_put : {A : Type 0} (f : A → List ℕ) → ((x : A) → length (f x) ≡ 4) → (size : ℕ) (is : List A) (l : List ℕ) (n : ℕ) (full : Bool) (x : A) (h a b c : ℕ)
     → f x ≡ h ∷ a ∷ b ∷ c ∷ [] → Exact f size is l n full
     → Exact f size (is ++ (x ∷ [])) (pick (ltb n (length l / 4)) (four l n h a b c) l) (pick (ltb n (length l / 4)) (n + 1) n) (pick (ltb n (length l / 4)) full true)
@@ -210,15 +202,15 @@ exact_put {A} f g size is l n full x h a b c e s = go (dec_lt (length is) (size 
     go (no d) = rw (s.long, held_none s.held (omega arith)) (record {
       long = s.long;
       held = rw (length_snoc is x) (held_out s.held (omega arith));
-      same = λ z. never z;
+      same = λ z. true_not_false z;
     })
 
-pick_sticky : (c full : Bool) → pick c full true ≡ false → (c ≡ true) × (full ≡ false)
-pick_sticky true full e = (refl, e)
-pick_sticky false full e = never e
+pick_not_full : (c full : Bool) → pick c full true ≡ false → (c ≡ true) × (full ≡ false)
+pick_not_full true full e = (refl, e)
+pick_not_full false full e = true_not_false e
 
 entry_later : (b : List ℕ) (s : State) → (entry_in b s).book_full ≡ false → s.book_full ≡ false
-entry_later b s f = (pick_sticky (ltb s.entries (length b / 4)) s.book_full f).1
+entry_later b s f = (pick_not_full (ltb s.entries (length b / 4)) s.book_full f).1
 
 -- the numbers within the kinds
 how_snoc : (k : ℕ) (es : List Entry) (e : Entry) → how_many k (es ++ (e ∷ [])) ≡ pick (eqb e.kind k) (suc (how_many k es)) (how_many k es)
@@ -339,11 +331,11 @@ module _ (t : List ℕ) (size : ℕ) (is : List Entry) (b b' : List ℕ) (st : S
     held = rw (length_snoc is (entry k (next_number k is) x y z'), s.long) (held_put (size / 4) (length is) st.entries st.book_full s.held);
     small = small_snoc is (entry k (next_number k is) x y z') s.small (small_number k is);
     written = λ f.
-        let q = pick_sticky (ltb st.entries (length b / 4)) st.book_full f in
+        let q = pick_not_full (ltb st.entries (length b / 4)) st.book_full f in
         let r = ltb-true st.entries (length b / 4) q.0 in
         entry_written q.1 r (h q.1) (p q.1 r);
     counted = λ f.
-        let q = pick_sticky (ltb st.entries (length b / 4)) st.book_full f in
+        let q = pick_not_full (ltb st.entries (length b / 4)) st.book_full f in
         one_counted is st.entries st.names st.datums st.bytes (length b / 4) (entry k (next_number k is) x y z') (s.counted q.1) (ltb-true st.entries (length b / 4) q.0) (held_count s.held q.1);
   }
 
@@ -444,7 +436,7 @@ made t size is b st x n g p s o a =
       booked = rw m.0
           (booked_entry t size is b (linked b st (descent_to t b st x n g)) st 50 (name_tag t x n g) st.names x n (sigil_code g) g (plus_one (root_of b st)) s (linked_length t b x n g st) (bare_name (name_tag t x n g) (next_number 50 is) x n g (tag_high (hash_of t x (sigil_code g) n)) p) (λ f. (s.counted f).names_are)
           (λ f r. name_puts t size is b st x n g (word_of (name_tag t x n g) (next_number 50 is)) (s.written f) (held_count s.held f) o.tree a r (head_kind (name_tag t x n g) (next_number 50 is))));
-      number = rw m.2 (λ f. ap low (sym (s.counted (pick_sticky (ltb st.entries (length b / 4)) st.book_full f).1).names_are));
+      number = rw m.2 (λ f. ap low (sym (s.counted (pick_not_full (ltb st.entries (length b / 4)) st.book_full f).1).names_are));
     }
 
 kept : (t : List ℕ) (size : ℕ) (is : List Entry) (b : List ℕ) (st : State) (x n g v : ℕ) → Booked t size is b st.entries st.names st.datums st.bytes (plus_one st.root) st.book_full
@@ -457,7 +449,7 @@ kept t size is b st x n g v s h e =
 over : (t : List ℕ) (size : ℕ) (is ks : List Entry) (b b' : List ℕ) (entries names datums bytes root names' root' : ℕ) (full : Bool) → Booked t size is b entries names datums bytes root full
     → full ≡ true → length is ≤ length ks → all_small ks ≡ true → length b' ≡ length b → Booked t size ks b' entries names' datums bytes root' true
 over t size is ks b b' entries names datums bytes root names' root' full s f h i e =
-    record { long = e ∙ s.long; held = held_over (length ks) s.held f h; small = i; written = λ z. never z; counted = λ z. never z }
+    record { long = e ∙ s.long; held = held_over (length ks) s.held f h; small = i; written = λ z. true_not_false z; counted = λ z. true_not_false z }
 
 over_made : (t : List ℕ) (size : ℕ) (is ks : List Entry) (b : List ℕ) (st : State) (x n g v : ℕ) → Booked t size is b st.entries st.names st.datums st.bytes (plus_one st.root) st.book_full
     → st.book_full ≡ true → length is ≤ length ks → all_small ks ≡ true → Dec (entry_of t b st x n g < known b st) → Symbols t size is b st x n g ks v
@@ -471,7 +463,7 @@ over_made t size is ks b st x n g v s f h i (yes d) =
       state = m.1;
       later = λ z. z;
       booked = rw (m.0, f) (over t size is ks b b st.entries st.names st.datums st.bytes (plus_one st.root) st.names (plus_one st.root) st.book_full s f h i refl);
-      number = λ z. never (sym f ∙ z);
+      number = λ z. true_not_false (sym f ∙ z);
     }
 over_made t size is ks b st x n g v s f h i (no d) =
     let m = symbol_made t b st x n g (omega arith) in
@@ -482,11 +474,11 @@ over_made t size is ks b st x n g v s f h i (no d) =
       root = root_of b st;
       full = true;
       state = rw o at m.1;
-      later = λ z. never z;
+      later = λ z. true_not_false z;
       booked = rw m.0
           (over t size is ks b (entry_list (linked b st (descent_to t b st x n g)) st (word_of (name_tag t x n g) (low st.names)) x n (sigil_code g)) st.entries st.names st.datums st.bytes (plus_one st.root) (more st.names (length b / 4)) (plus_one (root_of b st)) st.book_full s f h i
           (entry_long (linked b st (descent_to t b st x n g)) st (word_of (name_tag t x n g) (low st.names)) x n (sigil_code g) ∙ linked_length t b x n g st));
-      number = λ z. never z;
+      number = λ z. true_not_false z;
     }
 
 -- the entries and the number of the rules
@@ -728,21 +720,21 @@ module _ (L N B : ℕ) (t : List ℕ) (clean : Ideal → Ideal) where
 
   pub sim_patch : (i : Ideal) (m : Mem) (k k' v v' : ℕ) → (s : Sim t L N B i m) → (s.st.list_full ≡ false → k ≡ k') → (s.st.list_full ≡ false → v ≡ v') → Sim t L N B ((ideal_r t clean).patch i k v) ((mem_r t).patch m k' v')
   sim_patch i m k k' v v' s e d = sim_change (set_a v') (with_a v) (with_a v') (λ r ys. refl) (λ p. length-set p 2 v') i m k k' s e
-      (λ z r a. rw (← d z) (blind_same s.st.book_full (with_a v) r (get_or i.records k no_rec) (blind_a s.st.book_full v) a)) (fresh_at i.records k s.whole)
+      (λ z r a. rw (← d z) (hide_change s.st.book_full (with_a v) r (get_or i.records k no_rec) (hide_with_a s.st.book_full v) a)) (fresh_at i.records k s.whole)
 
   pub sim_patch_end : (i : Ideal) (m : Mem) (k k' v v' : ℕ) → (s : Sim t L N B i m) → (s.st.list_full ≡ false → k ≡ k') → (s.st.list_full ≡ false → v ≡ v') → Sim t L N B ((ideal_r t clean).patch_end i k v) ((mem_r t).patch_end m k' v')
   sim_patch_end i m k k' v v' s e d = sim_change (set_c v') (with_c v) (with_c v') (λ r ys. refl) (λ p. length-set p 4 v') i m k k' s e
-      (λ z r a. rw (← d z) (blind_same s.st.book_full (with_c v) r (get_or i.records k no_rec) (blind_c s.st.book_full v) a)) (fresh_at i.records k s.whole)
+      (λ z r a. rw (← d z) (hide_change s.st.book_full (with_c v) r (get_or i.records k no_rec) (hide_with_c s.st.book_full v) a)) (fresh_at i.records k s.whole)
 
   pub sim_settle : (i : Ideal) (m : Mem) (k v v' : ℕ) → eqb (get_or i.records k no_rec).call 25 ≡ false → (s : Sim t L N B i m) → (s.st.list_full ≡ false → v ≡ v') → Sim t L N B ((ideal_r t clean).settle i k v) ((mem_r t).settle m k v')
   sim_settle i m k v v' u s d = sim_change (settle_args v') (settled v) (settled v') (λ r ys. refl) (λ p. simp length-set) i m k k s (λ z. refl)
-      (λ z r a. rw (← d z) (blind_same s.st.book_full (settled v) r (get_or i.records k no_rec) (blind_settled s.st.book_full v) a)) (rw u)
+      (λ z r a. rw (← d z) (hide_change s.st.book_full (settled v) r (get_or i.records k no_rec) (hide_settled s.st.book_full v) a)) (rw u)
 
   pub sim_settle_number : (i : Ideal) (m : Mem) (k v v' : ℕ) → (get_or i.records k no_rec).call ≡ 31 → (s : Sim t L N B i m) → (s.st.book_full ≡ false → v ≡ v') → Sim t L N B ((ideal_r t clean).settle i k v) ((mem_r t).settle m k v')
   sim_settle_number i m k v v' u s d = sim_change (settle_args v') (settled v) (settled v') (λ r ys. refl) (λ p. simp length-set) i m k k s (λ z. refl)
-      (λ z r a. blind_same s.st.book_full (settled v') r (get_or i.records k no_rec) (blind_settled s.st.book_full v') a
+      (λ z r a. hide_change s.st.book_full (settled v') r (get_or i.records k no_rec) (hide_settled s.st.book_full v') a
       ∙ sym (hide_number s.st.book_full (get_or i.records k no_rec).call (get_or i.records k no_rec).line (get_or i.records k no_rec).range v v' 0 0 (rw u) d)) (rw u)
 
   pub sim_drop_label : (i : Ideal) (m : Mem) (k : ℕ) → eqb (get_or i.records k no_rec).call 25 ≡ false → Sim t L N B i m → Sim t L N B ((ideal_r t clean).drop_label i k) ((mem_r t).drop_label m k)
   sim_drop_label i m k u s = sim_change clear_args unlabelled unlabelled (λ r ys. refl) (λ p. simp length-set) i m k k s (λ z. refl)
-      (λ z r a. blind_same s.st.book_full unlabelled r (get_or i.records k no_rec) (blind_unlabelled s.st.book_full) a) (rw u)
+      (λ z r a. hide_change s.st.book_full unlabelled r (get_or i.records k no_rec) (hide_unlabelled s.st.book_full) a) (rw u)

@@ -11,7 +11,7 @@ use Rattle.recorder.specs.declared.label.DatumIndex.{DatumIndex}
 use Rattle.recorder.specs.Word.{pick}
 use Rattle.recorder.specs.Layout.{most_records}
 use Rattle.recorder.specs.Mem.{on_line, put_st, note_st, entry_st, known, entry_of, new_st, symbol_st, datum_st, byte_st}
-use Rattle.recorder.proofs.Bools.{never}
+use Rattle.recorder.proofs.Bools.{true_not_false}
 
 -- one count anew, and its buffer's flag; or one kind's count
 abbrev pub with_records : State → ℕ → Bool → State
@@ -82,7 +82,7 @@ put_stays l s = go (ltb s.records (most_records (length l)))
   where
     go : (c : Bool) → Stays s (pick c (record s { records = s.records + 1 }) (record s { list_full = true }))
     go true = (λ e. e, λ e. e)
-    go false = (λ e. never e, λ e. e)
+    go false = (λ e. true_not_false e, λ e. e)
 
 pub note_stays : (l : List ℕ) (s : State) → Stays s (note_st l s)
 unfolding note_st
@@ -98,7 +98,7 @@ entry_stays b s = go (ltb s.entries (length b / 4))
   where
     go : (c : Bool) → Stays s (pick c (record s { entries = s.entries + 1 }) (record s { book_full = true }))
     go true = (λ e. e, λ e. e)
-    go false = (λ e. e, λ e. never e)
+    go false = (λ e. e, λ e. true_not_false e)
 
 pub symbol_stays : (t b : List ℕ) (s : State) (x n g : ℕ) → Stays s (symbol_st t b s x n g)
 unfolding symbol_st

@@ -12,14 +12,15 @@ use native.Mathlib.Numerals.{add-one}
 use native.Mathlib.Omega.{arith}
 use Rattle.recorder.specs.declared.codegen.Descent.{Descent}
 use Rattle.recorder.specs.declared.codegen.State.{State}
-use Rattle.recorder.specs.Word.{pick, both, kind, kind_at, next, plus_one}
+use Rattle.recorder.specs.Word.{pick, both, kind, kind_at, next}
+use Rattle.recorder.specs.Optional.{plus_one}
 use Rattle.recorder.specs.Name.{upper, same_units, same_name}
 use Rattle.recorder.specs.Mem.{entries_in, root_in, four, sigil_code, sigil_of, link_of, with_link, known, tag_of, name_tag, named_at, lookup, hash_step, hash_of, child_of, has_child, descent_from, descent_to, entry_of, may_link, linked_at, linked, root_of}
-use Rattle.recorder.proofs.Bools.{never, both_parts, both_false}
+use Rattle.recorder.proofs.Bools.{true_not_false, both_parts, both_false}
 
 pick_true : (c a : Bool) → pick c a false ≡ true → (c ≡ true) × (a ≡ true)
 pick_true true a e = (refl, e)
-pick_true false a e = never (sym e)
+pick_true false a e = true_not_false (sym e)
 
 is_false : (c : Bool) → (c ≡ true → ⊥) → c ≡ false
 is_false true h = absurd (h refl)
@@ -135,7 +136,7 @@ module _ (t b : List ℕ) (end x n g : ℕ) (in-book : end ≤ length b / 4) whe
           → has_child b end (W (child_of b (descent at bits)) (bits * 2 % 4294967296) left) ≡ false)
           → named_at t b (pick c (descent at bits) (pick d (W (child_of b (descent at bits)) (bits * 2 % 4294967296) left) (descent at bits))).at x n g ≡ false
           → has_child b end (pick c (descent at bits) (pick d (W (child_of b (descent at bits)) (bits * 2 % 4294967296) left) (descent at bits))) ≡ false
-      go true p d q w h = never (sym p ∙ h)
+      go true p d q w h = true_not_false (sym p ∙ h)
       go false p false q w h = q
       go false p true q w h =
           let r = both_parts (ltb at (child_of b (descent at bits))) (ltb (child_of b (descent at bits)) end) q in
@@ -187,8 +188,8 @@ module _ (t b : List ℕ) (x n g : ℕ) where
   first_same k end i j p q = go (dec_lt i j) (dec_lt j i)
     where
       go : Dec (i < j) → Dec (j < i) → i ≡ j
-      go (yes d) e = never (sym (p.is (omega (arith, q.to))) ∙ q.before i p.from d)
-      go (no d) (yes e) = never (sym (q.is (omega (arith, p.to))) ∙ p.before j q.from e)
+      go (yes d) e = true_not_false (sym (p.is (omega (arith, q.to))) ∙ q.before i p.from d)
+      go (no d) (yes e) = true_not_false (sym (q.is (omega (arith, p.to))) ∙ p.before j q.from e)
       go (no d) (no e) = omega arith
 
   first_skip : (k end j : ℕ) → First t b x n g k end j → ((i : ℕ) → i < k → named_at t b i x n g ≡ false) → First t b x n g 0 end j
@@ -230,7 +231,7 @@ module _ (t b : List ℕ) (x n g : ℕ) (s : State) (T : Tree t b (known b s) (r
       let q = end_name w in
       let F = in_order in
       let c : named_at t b E.at x n g ≡ false = F.before E.at (omega arith) (f E.at q.0 q.1) in
-      rw (c, both_false (ltb E.at N)) (late (λ i l m e. never (sym e ∙ F.before i (omega arith) (f i l m))))
+      rw (c, both_false (ltb E.at N)) (late (λ i l m e. true_not_false (sym e ∙ F.before i (omega arith) (f i l m))))
 
   by_tree : 0 < root_in s → Dec (J < N) → Dec (J < 32768)
       → First t b x n g 0 N (pick (both (ltb E.at N) (named_at t b E.at x n g)) E.at (lookup t b x n g (min N 32768) (N - 32768)))
@@ -264,20 +265,20 @@ pub record Grown (b b' : List ℕ) (n : ℕ) : Type 0 where
   pub start : (k : ℕ) → k < n → get_or b' (4 * k + 1) 0 ≡ get_or b (4 * k + 1) 0
   pub size : (k : ℕ) → k < n → get_or b' (4 * k + 2) 0 ≡ get_or b (4 * k + 2) 0
   pub code : (k : ℕ) → k < n → get_or b' (4 * k + 3) 0 % 4 ≡ get_or b (4 * k + 3) 0 % 4
-  pub leading : (k : ℕ) → k < n → (h : Bool) → k < link_from b h k → link_from b h k < n → link_from b' h k ≡ link_from b h k
+  pub link_kept : (k : ℕ) → k < n → (h : Bool) → k < link_from b h k → link_from b h k < n → link_from b' h k ≡ link_from b h k
   pub new : (k : ℕ) → k < n → (h : Bool) → NewLink b b' n k h
 
 reach_grown : {b b' : List ℕ} {n i at bits : ℕ} → Grown b b' n → i < n → Reach b i at bits → Reach b' i at bits
 reach_grown G l (here e) = here e
 reach_grown G l (onto {at} {bits} h r) =
     let m = reach_le r in
-    let e = G.leading at (omega arith) (side bits) h (omega arith) in
+    let e = G.link_kept at (omega arith) (side bits) h (omega arith) in
     onto {at = at} {bits = bits} (rw e h) (rw e (reach_grown G l r))
 
 walk_grown : {b b' : List ℕ} {n i e u at bits : ℕ} → Grown b b' n → Walk b n e u at bits → Reach b' i e u → Reach b' i at bits
 walk_grown G (stay p q) r = rw (p, q) r
 walk_grown G (move {at} {bits} h l w) r =
-    let e = G.leading at (omega arith) (side bits) h l in
+    let e = G.link_kept at (omega arith) (side bits) h l in
     onto {at = at} {bits = bits} (rw e h) (rw e (walk_grown G w r))
 
 -- the entry that is new, if it is a name: it has no links, and it is reached if a tree may hold it
@@ -292,8 +293,8 @@ module _ (t b b' : List ℕ) (n : ℕ) (G : Grown b b' n) where
   kind_same : (k : ℕ) → k < n → 127 < kind_at b' (4 * k) → 127 < kind_at b (4 * k)
   kind_same k l e = rw (G.head k l) at e
 
-  kind_still : (k : ℕ) → k < n → 127 < kind_at b (4 * k) → 127 < kind_at b' (4 * k)
-  kind_still k l e = rw (G.head k l) e
+  kind_kept : (k : ℕ) → k < n → 127 < kind_at b (4 * k) → 127 < kind_at b' (4 * k)
+  kind_kept k l e = rw (G.head k l) e
 
   turns_same : (k : ℕ) → k < n → turns_at t b' k ≡ turns_at t b k
   turns_same k l = rw (G.start k l, G.size k l, G.code k l)
@@ -306,7 +307,7 @@ module _ (t b b' : List ℕ) (n : ℕ) (G : Grown b b' n) where
       old : (k < n) → NewLink b b' n k h → (link_from b' h k < n + 1) × (link_from b' h k < 32768) × (127 < kind_at b' (4 * link_from b' h k))
       old d (as_was q) =
           let r = T.links k d (kind_same k d e) h (rw q at p) in
-          rw q (omega (arith, r.0), r.1, kind_still (link_from b h k) r.0 r.2)
+          rw q (omega (arith, r.0), r.1, kind_kept (link_from b h k) r.0 r.2)
       old d (to_new q r s) = rw q (omega arith, r, s)
 
       go : Dec (k < n) → (link_from b' h k < n + 1) × (link_from b' h k < 32768) × (127 < kind_at b' (4 * link_from b' h k))
@@ -339,7 +340,7 @@ module _ (t b b' : List ℕ) (n : ℕ) (G : Grown b b' n) where
   tree_grown : (root : ℕ) → Tree t b n root → (127 < kind_at b' (4 * n) → Fresh t b' n root) → (kind_at b' (4 * n) ≡ 50 → ⊥) → Tree t b' (n + 1) root
   tree_grown root T F f = record {
     none = λ z k l m e. none z k l m e (dec_lt k n);
-    first = λ w. let q = T.first w in (omega (arith, q.0), q.1, kind_still (root - 1) q.0 q.2);
+    first = λ w. let q = T.first w in (omega (arith, q.0), q.1, kind_kept (root - 1) q.0 q.2);
     reached = λ w k l m e. reached w k l m e (dec_lt k n);
     links = links_grown root root T F;
     sigils = sigils_grown root root T F;
@@ -356,8 +357,8 @@ module _ (t b b' : List ℕ) (n : ℕ) (G : Grown b b' n) where
       reached w k l m e (no d) = let y : k ≡ n = omega arith in rw y ((F (rw y at e)).is_reached (omega arith))
 
   -- the first name
-  tree_planted : Tree t b n 0 → n < 32768 → 127 < kind_at b' (4 * n) → Fresh t b' n (n + 1) → Tree t b' (n + 1) (n + 1)
-  tree_planted T m e F = record {
+  tree_first : Tree t b n 0 → n < 32768 → 127 < kind_at b' (4 * n) → Fresh t b' n (n + 1) → Tree t b' (n + 1) (n + 1)
+  tree_first T m e F = record {
     none = λ z k l i c. omega arith;
     first = λ w. let z : n + 1 - 1 ≡ n = omega arith in rw z (omega arith, m, e);
     reached = λ w k l i c. reached k l i c (dec_lt k n);
@@ -407,7 +408,7 @@ module _ (b : List ℕ) (n h x y z : ℕ) (room : n < length b / 4) where
     start = λ k l. four_before b n h x y z (4 * k + 1) (omega arith);
     size = λ k l. four_before b n h x y z (4 * k + 2) (omega arith);
     code = λ k l. ap (λ (w : ℕ). w % 4) (four_before b n h x y z (4 * k + 3) (omega arith));
-    leading = λ k l s i j. ap (λ (w : ℕ). link_of s w) (four_before b n h x y z (4 * k + 3) (omega arith));
+    link_kept = λ k l s i j. ap (λ (w : ℕ). link_of s w) (four_before b n h x y z (4 * k + 3) (omega arith));
     new = λ k l s. as_was (ap (λ (w : ℕ). link_of s w) (four_before b n h x y z (4 * k + 3) (omega arith)));
   }
 
@@ -427,11 +428,11 @@ link_low : (w k : ℕ) → link_of false (with_link true w k) ≡ link_of false 
 link_low w k = omega arith
 
 -- a link that led nowhere, set: those that lead on stay
-link_leading : (h s : Bool) (e w n : ℕ) → both (ltb e (link_of h w)) (ltb (link_of h w) n) ≡ false → e < link_of s w → link_of s w < n → link_of s (with_link h w n) ≡ link_of s w
-link_leading true true e w n f l m = never (rw (lt-ltb e (link_of true w) l, lt-ltb (link_of true w) n m) at f)
-link_leading false false e w n f l m = never (rw (lt-ltb e (link_of false w) l, lt-ltb (link_of false w) n m) at f)
-link_leading true false e w n f l m = link_low w n
-link_leading false true e w n f l m = link_high w n
+with_link_kept : (h s : Bool) (e w n : ℕ) → both (ltb e (link_of h w)) (ltb (link_of h w) n) ≡ false → e < link_of s w → link_of s w < n → link_of s (with_link h w n) ≡ link_of s w
+with_link_kept true true e w n f l m = true_not_false (rw (lt-ltb e (link_of true w) l, lt-ltb (link_of true w) n m) at f)
+with_link_kept false false e w n f l m = true_not_false (rw (lt-ltb e (link_of false w) l, lt-ltb (link_of false w) n m) at f)
+with_link_kept true false e w n f l m = link_low w n
+with_link_kept false true e w n f l m = link_high w n
 
 link_new : (h s : Bool) (w n : ℕ) → n < 32768 → {A : Type 0} → (link_of s (with_link h w n) ≡ link_of s w → A) → (link_of s (with_link h w n) ≡ n → A) → A
 link_new true true w n l f g = g (link_set true w n l)
@@ -466,7 +467,7 @@ module _ (b : List ℕ) (n e u h x y z : ℕ) (room : n < length b / 4) (small :
     start = λ k l. word_other (4 * k + 1) (omega arith) (λ q. omega arith);
     size = λ k l. word_other (4 * k + 2) (omega arith) (λ q. omega arith);
     code = λ k l. code k l (ℕ_discrete k e);
-    leading = λ k l s i j. leading k l s i j (ℕ_discrete k e);
+    link_kept = λ k l s i j. link_kept k l s i j (ℕ_discrete k e);
     new = λ k l s. new k l s (ℕ_discrete k e);
   }
     where
@@ -474,9 +475,9 @@ module _ (b : List ℕ) (n e u h x y z : ℕ) (room : n < length b / 4) (small :
       code k l (yes d) = rw (d, word_linked) (link_code (side u) (get_or b (4 * e + 3) 0) n)
       code k l (no d) = ap (λ (w : ℕ). w % 4) (word_other (4 * k + 3) (omega arith) (λ q. d (omega arith)))
 
-      leading : (k : ℕ) → k < n → (s : Bool) → k < link_from b s k → link_from b s k < n → Dec (k ≡ e) → link_from grown_book s k ≡ link_from b s k
-      leading k l s i j (yes d) = rw (d, word_linked) (link_leading (side u) s e (get_or b (4 * e + 3) 0) n free (rw d at i) (rw d at j))
-      leading k l s i j (no d) = ap (λ (w : ℕ). link_of s w) (word_other (4 * k + 3) (omega arith) (λ q. d (omega arith)))
+      link_kept : (k : ℕ) → k < n → (s : Bool) → k < link_from b s k → link_from b s k < n → Dec (k ≡ e) → link_from grown_book s k ≡ link_from b s k
+      link_kept k l s i j (yes d) = rw (d, word_linked) (with_link_kept (side u) s e (get_or b (4 * e + 3) 0) n free (rw d at i) (rw d at j))
+      link_kept k l s i j (no d) = ap (λ (w : ℕ). link_of s w) (word_other (4 * k + 3) (omega arith) (λ q. d (omega arith)))
 
       new : (k : ℕ) → k < n → (s : Bool) → Dec (k ≡ e) → NewLink b grown_book n k s
       new k l s (yes d) = link_new (side u) s (get_or b (4 * e + 3) 0) n small
@@ -625,7 +626,7 @@ module _ (t b : List ℕ) (x n g h : ℕ) (s : State) (T : Tree t b (known b s) 
       go (no w) (yes l) =
           let z : root_in s ≡ 0 = omega arith in
           rw (not_linked (rw (le-ltb 0 (root_in s) (omega arith))), root_new z l)
-          (tree_planted t b (four b (entries_in s) h x n (sigil_code g)) (entries_in s) (four_grown b (entries_in s) h x n (sigil_code g) room) (rw z at T') l
+          (tree_first t b (four b (entries_in s) h x n (sigil_code g)) (entries_in s) (four_grown b (entries_in s) h x n (sigil_code g) room) (rw z at T') l
           (rw (four_head b (entries_in s) h x n (sigil_code g) room) named)
           (fresh_new t b (entries_in s) h x n g (entries_in s + 1) room tagged (λ i. omega arith) (λ i. here (omega arith))))
       go (yes w) (yes l) =

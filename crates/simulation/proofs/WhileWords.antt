@@ -13,15 +13,16 @@ use Rattle.recorder.specs.Ideal.{Rec, Note, note_of, no_rec, change, with_b}
 use Rattle.recorder.specs.Layout.{rec_words, note_words, words_of}
 use Rattle.recorder.specs.Closing.{is_while, is_wend}
 use Rattle.recorder.specs.Mem.{rec_of, set_b, at_rec, link_at, while_list, while_top, whiles_from, top_from, Passed, open_step, open_from, note_list}
-use Rattle.recorder.proofs.Words.{head_again, change_length, squash, raw_at}
+use Rattle.recorder.proofs.Words.{head_again, change_length, cut_rec, raw_at}
 use Rattle.recorder.proofs.Bools.{both_parts, both_false}
 use Rattle.simulation.proofs.Change.{change_front, change_comm, change_twice, change_none, at_change, at_other}
 use Rattle.simulation.proofs.Hide.{fresh_rec, all_fresh}
 use Rattle.recorder.specs.declared.codegen.State.{State}
 use Rattle.simulation.proofs.States.{with_notes, note_in, note_form}
-use Rattle.simulation.proofs.Sim.{Exact, exact_put}
+use Rattle.simulation.specs.Held.{Exact}
+use Rattle.simulation.proofs.Sim.{exact_put}
 use Rattle.simulation.proofs.Delays.{Holds, holds_rec, holds_at}
-use Rattle.simulation.proofs.Whiles.{step_p, step_w, run_p, run_w, Below, below_more, below_step, step_length, notes_of, step_p_plain, step_p_other, seam, at_seam}
+use Rattle.simulation.proofs.Whiles.{step_p, step_w, run_p, run_w, Below, below_more, below_step, step_length, notes_of, step_p_plain, step_p_other, append_middle, at_middle}
 
 -- the link to a stack: its top's address plus 1, 0 if it is empty
 abbrev pub link : List ℕ → ℕ
@@ -110,8 +111,8 @@ module _ (size : ℕ) where
   inside ps r rs k n = omega (arith, length-append ps (r ∷ rs))
 
   -- the record at k is the next one
-  read : (ps : List Rec) (ws : List ℕ) (k : ℕ) (r : Rec) (rs : List Rec) (l : List ℕ) (top : ℕ) → Linked size (ps ++ (r ∷ rs)) ws l top → length ps ≡ k → Below ws k → rec_of l k ≡ squash r
-  read ps ws k r rs l top h n b = holds_rec h.holds k ∙ ap (λ (z : Rec). squash z) (linked_at_lem (ps ++ (r ∷ rs)) ws k k b (omega arith) ∙ at_seam ps r rs k n)
+  read : (ps : List Rec) (ws : List ℕ) (k : ℕ) (r : Rec) (rs : List Rec) (l : List ℕ) (top : ℕ) → Linked size (ps ++ (r ∷ rs)) ws l top → length ps ≡ k → Below ws k → rec_of l k ≡ cut_rec r
+  read ps ws k r rs l top h n b = holds_rec h.holds k ∙ ap (λ (z : Rec). cut_rec z) (linked_at_lem (ps ++ (r ∷ rs)) ws k k b (omega arith) ∙ at_middle ps r rs k n)
 
   step_words : (ps : List Rec) (ws : List ℕ) (k : ℕ) (r : Rec) (rs : List Rec) (l : List ℕ) (top : ℕ) → Linked size (ps ++ (r ∷ rs)) ws l top → length ps ≡ k → Below ws k
       → (c : Bool) → is_while r ≡ c → (d : Bool) → is_wend r ≡ d
@@ -119,21 +120,21 @@ module _ (size : ℕ) where
   unfolding step_p step_w Below
   step_words ps ws k r rs l top h n b true e d f =
       let x = read ps ws k r rs l top h n b in
-      rw (step_p_plain ps ws k r e, e, seam ps r rs)
+      rw (step_p_plain ps ws k r e, e, append_middle ps r rs)
       (step_open (ps ++ (r ∷ rs)) ws l top k h (inside ps r rs k n) (ap (λ (z : Rec). is_while z) x ∙ e))
   step_words ps ws k r rs l top h n b false e false f =
       let x = read ps ws k r rs l top h n b in
       let v : is_wend (rec_of l k) ≡ false = ap (λ (z : Rec). is_wend z) x ∙ f in
-      rw (step_p_other ps ws k r e f, e, f, seam ps r rs)
+      rw (step_p_other ps ws k r e f, e, f, append_middle ps r rs)
       (step_pass (ps ++ (r ∷ rs)) ws l top k h (ap (λ (z : Rec). is_while z) x ∙ e) (rw v))
   step_words ps [] k r rs l top h n b false e true f =
       let x = read ps [] k r rs l top h n b in
       let u : ltb 0 top ≡ false = le-ltb 0 top (omega (arith, h.top_is)) in
-      rw (e, f, seam ps r rs)
+      rw (e, f, append_middle ps r rs)
       (step_pass (ps ++ (r ∷ rs)) [] l top k h (ap (λ (z : Rec). is_while z) x ∙ e) (rw u (both_false (is_wend (rec_of l k)))))
   step_words ps (w ∷ ws) k r rs l top h n b false e true f =
       let x = read ps (w ∷ ws) k r rs l top h n b in
-      rw (e, f, seam (change (with_b (suc k)) ps w) r rs, ← change_front (with_b (suc k)) ps (r ∷ rs) w (omega (arith, b.0)))
+      rw (e, f, append_middle (change (with_b (suc k)) ps w) r rs, ← change_front (with_b (suc k)) ps (r ∷ rs) w (omega (arith, b.0)))
       (step_close (ps ++ (r ∷ rs)) w ws l top k h b.1 (omega (arith, b.0, inside ps r rs k n)) (ap (λ (z : Rec). is_while z) x ∙ e) (ap (λ (z : Rec). is_wend z) x ∙ f))
 
   whiles_suc : (l : List ℕ) (top k n : ℕ) → whiles_from l top k (suc n) ≡ whiles_from (while_list l top k) (while_top l top k) (suc k) n
@@ -180,11 +181,11 @@ unknown_step : (ps : List Rec) (ws : List ℕ) (k : ℕ) (r : Rec) (rs : List Re
     → (c : Bool) → is_while r ≡ c → (d : Bool) → is_wend r ≡ d → Unknown (step_p ps ws k r ++ rs) (step_w ws k r)
 unfolding step_p step_w Below Unknown
 unknown_step ps ws k r rs u n b f true e d g =
-    rw (step_p_plain ps ws k r e, e, seam ps r rs) (ap (λ (z : Rec). z.b) (at_seam ps r rs k n) ∙ fresh_while r f e, subst (λ (z : List Rec). Unknown z ws) (sym (seam ps r rs)) u)
-unknown_step ps ws k r rs u n b f false e false g = rw (step_p_other ps ws k r e g, e, g, seam ps r rs) u
+    rw (step_p_plain ps ws k r e, e, append_middle ps r rs) (ap (λ (z : Rec). z.b) (at_middle ps r rs k n) ∙ fresh_while r f e, subst (λ (z : List Rec). Unknown z ws) (sym (append_middle ps r rs)) u)
+unknown_step ps ws k r rs u n b f false e false g = rw (step_p_other ps ws k r e g, e, g, append_middle ps r rs) u
 unknown_step ps [] k r rs u n b f false e true g = rw (e, g) refl
 unknown_step ps (w ∷ ws) k r rs u n b f false e true g =
-    rw (e, g, seam (change (with_b (suc k)) ps w) r rs, ← change_front (with_b (suc k)) ps (r ∷ rs) w (omega (arith, b.0))) (unknown_change (with_b (suc k)) (ps ++ (r ∷ rs)) ws w b.1 u.1)
+    rw (e, g, append_middle (change (with_b (suc k)) ps w) r rs, ← change_front (with_b (suc k)) ps (r ∷ rs) w (omega (arith, b.0))) (unknown_change (with_b (suc k)) (ps ++ (r ∷ rs)) ws w b.1 u.1)
 
 pub run_unknown : (rs : List Rec) (ps : List Rec) (ws : List ℕ) (k : ℕ) → Unknown (ps ++ rs) ws → length ps ≡ k → Below ws k → all_fresh rs ≡ true → Unknown (run_p ps ws k rs) (run_w ws k rs)
 unfolding run_p run_w all_fresh

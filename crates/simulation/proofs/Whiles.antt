@@ -11,7 +11,7 @@ use Rattle.recorder.specs.Word.{pick, choose}
 use Rattle.recorder.specs.Ideal.{Rec, Note, note_of, no_rec, change, with_b, missing, found}
 use Rattle.recorder.specs.Closing.{is_wend, is_while, closes, opened, end_from, end_at, close_whiles, open_note, open_notes}
 use Rattle.recorder.proofs.Words.{length_snoc, change_length}
-use Rattle.recorder.proofs.Bools.{never}
+use Rattle.recorder.proofs.Bools.{true_not_false}
 use Rattle.simulation.proofs.Change.{change_front, change_last, change_comm, change_none}
 
 -- a WHILE is no WEND
@@ -23,7 +23,7 @@ wend_while r e = go (is_while r) refl
   where
     go : (b : Bool) → is_while r ≡ b → b ≡ false
     go false f = refl
-    go true f = never (sym e ∙ while_wend r f)
+    go true f = true_not_false (sym e ∙ while_wend r f)
 
 -- the end that a WHILE gets, behind one record
 end_while : (r : Rec) (rs : List Rec) (i k : ℕ) → is_while r ≡ true → end_from (r ∷ rs) i k ≡ end_from rs (suc i) (suc k)
@@ -167,8 +167,8 @@ unfolding step_p
 step_p_other ps [] k r e f = refl
 step_p_other ps (w ∷ ws) k r e f = rw (e, f)
 
-pub seam : (xs : List Rec) (y : Rec) (zs : List Rec) → (xs ++ (y ∷ [])) ++ zs ≡ xs ++ (y ∷ zs)
-seam xs y zs = append_assoc xs (y ∷ []) zs
+pub append_middle : (xs : List Rec) (y : Rec) (zs : List Rec) → (xs ++ (y ∷ [])) ++ zs ≡ xs ++ (y ∷ zs)
+append_middle xs y zs = append_assoc xs (y ∷ []) zs
 
 from_zero : (rs : List Rec) (n k : ℕ) → end_from rs (0 + n) k ≡ end_from rs n k
 from_zero rs n k = let a : 0 + n ≡ n = omega arith in ap (λ (z : ℕ). end_from rs z k) a
@@ -182,7 +182,7 @@ unfolding ends
 close_open ps ws k r rs n b e =
     let s : ends ps ws (r ∷ rs) 0 k ≡ ends ps ws rs 1 (suc k) = ends_same ps ws (r ∷ rs) rs 0 1 k (suc k) (λ m. from_zero (r ∷ rs) m k ∙ end_while r rs m k e ∙ sym (from_one rs m (suc k))) in
     rw (ends_snoc ps r ws rs 1 (suc k) k b (omega arith), change_last (end_at (end_from rs 0 (suc k))) (ends ps ws rs 1 (suc k)) r k (ends_length ps ws rs 1 (suc k) ∙ n), s, close_while r rs k e)
-    (seam (ends ps ws rs 1 (suc k)) (end_at (end_from rs 0 (suc k)) r) (close_whiles rs (suc k)))
+    (append_middle (ends ps ws rs 1 (suc k)) (end_at (end_from rs 0 (suc k)) r) (close_whiles rs (suc k)))
 
 close_end : (ps : List Rec) (w : ℕ) (ws : List ℕ) (k : ℕ) (r : Rec) (rs : List Rec) → length ps ≡ k → w < k → Below ws w → is_wend r ≡ true
     → ends (change (with_b (suc k)) ps w ++ (r ∷ [])) ws rs 0 (suc k) ++ close_whiles rs (suc k) ≡ ends ps (w ∷ ws) (r ∷ rs) 0 k ++ close_whiles (r ∷ rs) k
@@ -196,17 +196,17 @@ close_end ps w ws k r rs n h b e =
       end_here_lem r rs k e,
       close_other r rs k (wend_while r e),
     )
-    (seam (change (with_b (suc k)) (ends ps ws rs 0 (suc k)) w) r (close_whiles rs (suc k)))
+    (append_middle (change (with_b (suc k)) (ends ps ws rs 0 (suc k)) w) r (close_whiles rs (suc k)))
 
 close_pass : (ps : List Rec) (ws : List ℕ) (k : ℕ) (r : Rec) (rs : List Rec) → length ps ≡ k → Below ws k → is_while r ≡ false → ((m : ℕ) → end_from (r ∷ rs) m k ≡ end_from rs m (suc k))
     → ends (ps ++ (r ∷ [])) ws rs 0 (suc k) ++ close_whiles rs (suc k) ≡ ends ps ws (r ∷ rs) 0 k ++ close_whiles (r ∷ rs) k
 close_pass ps ws k r rs n b e h =
     let s : ends ps ws (r ∷ rs) 0 k ≡ ends ps ws rs 0 (suc k) = ends_same ps ws (r ∷ rs) rs 0 0 k (suc k) (λ m. from_zero (r ∷ rs) m k ∙ h m ∙ sym (from_zero rs m (suc k))) in
-    rw (ends_snoc ps r ws rs 0 (suc k) k b (omega arith), s, close_other r rs k e) (seam (ends ps ws rs 0 (suc k)) r (close_whiles rs (suc k)))
+    rw (ends_snoc ps r ws rs 0 (suc k) k b (omega arith), s, close_other r rs k e) (append_middle (ends ps ws rs 0 (suc k)) r (close_whiles rs (suc k)))
 
 close_bare : (ps : List Rec) (k : ℕ) (r : Rec) (rs : List Rec) → is_while r ≡ false → ends (ps ++ (r ∷ [])) [] rs 0 (suc k) ++ close_whiles rs (suc k) ≡ ends ps [] (r ∷ rs) 0 k ++ close_whiles (r ∷ rs) k
 unfolding ends
-close_bare ps k r rs e = rw (close_other r rs k e) (seam ps r (close_whiles rs (suc k)))
+close_bare ps k r rs e = rw (close_other r rs k e) (append_middle ps r (close_whiles rs (suc k)))
 
 close_step : (ps : List Rec) (ws : List ℕ) (k : ℕ) (r : Rec) (rs : List Rec) → length ps ≡ k → Below ws k → (c : Bool) → is_while r ≡ c → (d : Bool) → is_wend r ≡ d
     → ends (step_p ps ws k r) (step_w ws k r) rs 0 (suc k) ++ close_whiles rs (suc k) ≡ ends ps ws (r ∷ rs) 0 k ++ close_whiles (r ∷ rs) k
@@ -288,18 +288,18 @@ notes_nil : (qs : List Rec) (ws : List ℕ) → open_notes [] ++ still_open qs w
 unfolding open_notes
 notes_nil qs ws = still_none qs ws 0
 
-pub at_seam : (ps : List Rec) (r : Rec) (rs : List Rec) (k : ℕ) → length ps ≡ k → get_or (ps ++ (r ∷ rs)) k no_rec ≡ r
-at_seam [] r rs zero e = refl
-at_seam [] r rs (suc k) e = absurd (omega arith)
-at_seam (p ∷ ps) r rs zero e = absurd (omega arith)
-at_seam (p ∷ ps) r rs (suc k) e = at_seam ps r rs k (omega arith)
+pub at_middle : (ps : List Rec) (r : Rec) (rs : List Rec) (k : ℕ) → length ps ≡ k → get_or (ps ++ (r ∷ rs)) k no_rec ≡ r
+at_middle [] r rs zero e = refl
+at_middle [] r rs (suc k) e = absurd (omega arith)
+at_middle (p ∷ ps) r rs zero e = absurd (omega arith)
+at_middle (p ∷ ps) r rs (suc k) e = at_middle ps r rs k (omega arith)
 
 pub run_notes : (ps : List Rec) (ws : List ℕ) (k : ℕ) (rs qs : List Rec) → qs ≡ ps ++ rs → length ps ≡ k → notes_of qs (run_w ws k rs) ≡ open_notes rs ++ still_open qs ws rs 0
 unfolding run_w
 run_notes ps ws k [] qs e n = sym (notes_nil qs ws)
 run_notes ps ws k (r ∷ rs) qs e n =
-    run_notes (ps ++ (r ∷ [])) (step_w ws k r) (suc k) rs qs (e ∙ sym (seam ps r rs)) (length_snoc ps r ∙ ap suc n)
-    ∙ note_step qs ws k r rs (rw e (at_seam ps r rs k n)) (is_while r) refl (is_wend r) refl
+    run_notes (ps ++ (r ∷ [])) (step_w ws k r) (suc k) rs qs (e ∙ sym (append_middle ps r rs)) (length_snoc ps r ∙ ap suc n)
+    ∙ note_step qs ws k r rs (rw e (at_middle ps r rs k n)) (is_while r) refl (is_wend r) refl
 
 -- all records, from the first on
 pub all_closed : (rs : List Rec) → run_p [] [] 0 rs ≡ close_whiles rs 0

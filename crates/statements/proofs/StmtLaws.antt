@@ -10,7 +10,7 @@ use Rattle.recorder.specs.Mem.{Mem, mem_r, as_word, records_in}
 use Rattle.sheet.specs.declared.form.Sort.TheVariants.{Expr as exprSort, Stmt as stmtSort}
 use Rattle.sheet.specs.declared.form.Shape.{Shape}
 use Rattle.sheet.specs.declared.form.Shape.TheVariants.{If}
-use Rattle.sheet.specs.Table.{shape_fields}
+use Rattle.sheet.specs.Shapes.{shape_fields}
 use Rattle.sheet.specs.Form.{is_absent}
 use Rattle.sheet.specs.Skip.{skip_node, skip_list, skip_fields, skip_field, skip_times, skip_pair, skip_item}
 use Rattle.sheet.specs.Tree.{stmt_node, stmt_at, shape_of}

@@ -5,7 +5,7 @@ use Rattle.recorder.specs.Word.{payload_at, next}
 use Rattle.recorder.specs.Mem.{Mem, mem_r}
 use Rattle.sheet.specs.declared.form.Sort.TheVariants.{Expr as exprSort, Stmt as stmtSort}
 use Rattle.sheet.specs.declared.form.Shape.TheVariants.{If}
-use Rattle.sheet.specs.Table.{shape_fields}
+use Rattle.sheet.specs.Shapes.{shape_fields}
 use Rattle.sheet.specs.Skip.{skip_node, skip_list, skip_fields}
 use Rattle.sheet.specs.Tree.{expr_at, stmt_at, stmts_at, if_at}
 use Rattle.rules.specs.declared.types.«Type».TheVariants.{Real}

@@ -29,6 +29,8 @@ use transfers::opens::compile_open;
 
 // The arms' functions take parameters of their own; a table of function pointers would lose which one is called. A statement's number and
 // range go on as two: most shapes want the range alone.
+// The clause assumes that s is not If, whose arm does nothing. compile_stmt, the only caller, has an arm of its own for If before it calls
+// this one with any other shape, and that is what its proof gives.
 pub fn compile_plain(
     src: &Source,
     code: &mut CodeGen,

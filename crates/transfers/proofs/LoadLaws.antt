@@ -10,7 +10,8 @@ use Rattle.recorder.specs.Mem.{Mem, mem_r}
 use Rattle.sheet.specs.declared.form.Sort.TheVariants.{Expr as exprSort}
 use Rattle.sheet.specs.declared.form.Shape.TheVariants.{Load}
 use Rattle.sheet.specs.Skip.{skip_node, skip_repeat, skip_list, skip_fields, skip_field, skip_times, skip_pair, skip_item}
-use Rattle.sheet.specs.Tree.{absent, Expr, number_lit, count, mantissa_at, expr_at, expr_node, exprs_at, stmt_node, args_at}
+use Rattle.sheet.specs.Tree.{absent, Expr, number_lit, count, mantissa_at, expr_at, expr_node, exprs_at, stmt_node}
+use Rattle.sheet.specs.Args.{args_at}
 use Rattle.rules.specs.declared.types.«Type».TheVariants.{Real}
 use Rattle.rules.specs.Name.{text_place}
 use Rattle.rules.specs.Stmt.{compile_stmt, fresh, byte_units, final_byte, byte_of, bad_bytes, all_bytes, load_bytes, load_node, compile_load}

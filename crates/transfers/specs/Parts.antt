@@ -1,19 +1,21 @@
 -- The contracts' shapes for the parts of OPEN and LOAD.
 use Rattle.std.specs.Prelude.{◌≡◌, List, ℕ, eqb}
 use Rattle.recorder.specs.declared.word.Range.{Range}
+use Rattle.recorder.specs.Calls.{emit_open}
 use Rattle.recorder.specs.Word.{pick, next, choose}
 use Rattle.recorder.specs.Recorder.{Recorder}
 use Rattle.recorder.specs.Mem.{Mem, mem_r}
 use Rattle.sheet.specs.declared.form.Sort.TheVariants.{Expr as exprSort}
 use Rattle.sheet.specs.Form.{is_absent}
 use Rattle.sheet.specs.Skip.{skip_node, skip_repeat}
-use Rattle.sheet.specs.Tree.{opt_at, len_at, args_at}
+use Rattle.sheet.specs.Tree.{opt_at, len_at}
+use Rattle.sheet.specs.Args.{args_at}
 use Rattle.transfers.specs.declared.loads.ReadByte.{ReadByte}
 use Rattle.transfers.specs.declared.loads.ReadByte.TheVariants.{Value, Nothing, Plus, Bad}
 use Rattle.rules.specs.Stmt.{ByteRead, fresh, signed, byte_so_far, no_byte, bad_bytes, load_node, open_node}
 
 abbrev pub open_call : {S : Type 0} → Recorder S → ℕ → Range → S → S
-open_call R mode r u = pick (eqb mode 0) u (R.emit u 34 r mode 1 0)
+open_call R mode r u = pick (eqb mode 0) u (emit_open (R.emit u) mode 1 r)
 
 -- OPEN from its LEN on
 pub record Opened (s t : List ℕ) (base left mode : ℕ) (r : Range) (at : ℕ) (m m' : Mem) (p : ℕ) : Type 0 where

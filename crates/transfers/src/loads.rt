@@ -2,7 +2,8 @@
 ghost use Rattle.std.specs.Prelude.{◌≡◌, List, ℕ};
 ghost use Rattle.recorder.specs.Mem.{mem_r};
 ghost use Rattle.recorder.specs.CodeGen.{mem_of, SameLoans};
-ghost use Rattle.sheet.specs.Tree.{expr_at, args_at};
+ghost use Rattle.sheet.specs.Tree.{expr_at};
+ghost use Rattle.sheet.specs.Args.{args_at};
 ghost use Rattle.rules.specs.Stmt.{fresh, up_to255, digit, plus, byte_unit, byte_units, final_byte, byte_of, bad_byte, all_bytes, load_byte, load_bytes};
 ghost use Rattle.nodes.specs.Compiled.{opt_of};
 ghost use Rattle.expressions.specs.Body.{Body};

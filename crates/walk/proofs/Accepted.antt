@@ -23,159 +23,159 @@ use Rattle.sheet.specs.Form.{then, is_absent, has_unit, is_name_range, take_word
 use Rattle.sheet.specs.Skip.{skip_source, skip_element, skip_item, skip_pair, skip_repeat, skip_list, skip_times, skip_field, skip_fields, skip_node}
 
 -- where the walk is accepted, it ends at x
-pub record Lands (w : Walk) (x : ℕ) : Type 0 where
+pub record EndsAt (w : Walk) (x : ℕ) : Type 0 where
   pub ends : (p : ℕ) → w ≡ Ok p → p ≡ x
 
-pub lands_at : (x : ℕ) → Lands (Ok x) x
-lands_at x = record { ends = λ p e. let z : p ≡ x = cc in z }
+pub ok_ends_at : (x : ℕ) → EndsAt (Ok x) x
+ok_ends_at x = record { ends = λ p e. let z : p ≡ x = cc in z }
 
-pub lands_never : (o : Offence) (x : ℕ) → Lands (Err o) x
-lands_never o x = record { ends = λ p e. let z : ◌≡◌ {A = ℕ} 0 1 = cc in absurd (omega arith) }
+pub err_ends_at : (o : Offence) (x : ℕ) → EndsAt (Err o) x
+err_ends_at o x = record { ends = λ p e. let z : ◌≡◌ {A = ℕ} 0 1 = cc in absurd (omega arith) }
 
-lands_same : (p x : ℕ) → Lands (Ok p) x → p ≡ x
-lands_same p x h = h.ends p refl
+ends_at_same : (p x : ℕ) → EndsAt (Ok p) x → p ≡ x
+ends_at_same p x h = h.ends p refl
 
-pub lands_pick : (b : Bool) (v w : Walk) (x : ℕ) → Lands v x → Lands w x → Lands (pick b v w) x
-lands_pick true v w x a b = a
-lands_pick false v w x a b = b
+pub ends_at_pick : (b : Bool) (v w : Walk) (x : ℕ) → EndsAt v x → EndsAt w x → EndsAt (pick b v w) x
+ends_at_pick true v w x a b = a
+ends_at_pick false v w x a b = b
 
-pub lands_choose : (b : Bool) (f g : ℕ → Walk) (d e : ℕ → ℕ) (p : ℕ) → Lands (f p) (d p) → Lands (g p) (e p) → Lands (choose b f g p) (choose b d e p)
-lands_choose true f g d e p a b = a
-lands_choose false f g d e p a b = b
+pub ends_at_choose : (b : Bool) (f g : ℕ → Walk) (d e : ℕ → ℕ) (p : ℕ) → EndsAt (f p) (d p) → EndsAt (g p) (e p) → EndsAt (choose b f g p) (choose b d e p)
+ends_at_choose true f g d e p a b = a
+ends_at_choose false f g d e p a b = b
 
-lands_either : (b : Bool) (f g : ℕ → Walk) (p x : ℕ) → Lands (f p) x → Lands (g p) x → Lands (choose b f g p) x
-lands_either true f g p x a b = a
-lands_either false f g p x a b = b
+ends_at_either : (b : Bool) (f g : ℕ → Walk) (p x : ℕ) → EndsAt (f p) x → EndsAt (g p) x → EndsAt (choose b f g p) x
+ends_at_either true f g p x a b = a
+ends_at_either false f g p x a b = b
 
-pub lands_then : (w : Walk) (f : ℕ → Walk) (x y : ℕ) → Lands w x → Lands (f x) y → Lands (then w f) y
-lands_then (Ok p) f x y a b = let e : p ≡ x = lands_same p x a in rw e b
-lands_then (Err o) f x y a b = lands_never o y
+pub ends_at_then : (w : Walk) (f : ℕ → Walk) (x y : ℕ) → EndsAt w x → EndsAt (f x) y → EndsAt (then w f) y
+ends_at_then (Ok p) f x y a b = let e : p ≡ x = ends_at_same p x a in rw e b
+ends_at_then (Err o) f x y a b = err_ends_at o y
 
 module _ (s : List ℕ) where
-  pub word_lands : (k n p : ℕ) → Lands (take_word s k n p) (next s p)
+  pub word_ends_at : (k n p : ℕ) → EndsAt (take_word s k n p) (next s p)
   unfolding take_word
-  word_lands k n p = lands_pick (both (eqb (kind_at s p) k) (ltb (payload_at s p) n)) _ _ _ (lands_at (next s p)) (lands_never (BadWord p) (next s p))
+  word_ends_at k n p = ends_at_pick (both (eqb (kind_at s p) k) (ltb (payload_at s p) n)) _ _ _ (ok_ends_at (next s p)) (err_ends_at (BadWord p) (next s p))
 
-  pub non_empty_lands : (p : ℕ) → Lands (non_empty_form s p) (next s p)
+  pub non_empty_ends_at : (p : ℕ) → EndsAt (non_empty_form s p) (next s p)
   unfolding non_empty_form
-  non_empty_lands p = lands_then _ _ (next s p) _ (word_lands 4 16777216 p) (lands_pick (eqb (payload_at s p) 0) _ _ _ (lands_never (BadWord p) (next s p)) (lands_at (next s p)))
+  non_empty_ends_at p = ends_at_then _ _ (next s p) _ (word_ends_at 4 16777216 p) (ends_at_pick (eqb (payload_at s p) 0) _ _ _ (err_ends_at (BadWord p) (next s p)) (ok_ends_at (next s p)))
 
-  pub high_lands : (e p : ℕ) → Lands (high_form s e p) (next s p)
+  pub high_ends_at : (e p : ℕ) → EndsAt (high_form s e p) (next s p)
   unfolding high_form
-  high_lands e p = lands_then _ _ (next s p) _ (word_lands 11 65536 p) (lands_pick (high_fits e (payload_at s p)) _ _ _ (lands_at (next s p)) (lands_never (BadWord p) (next s p)))
+  high_ends_at e p = ends_at_then _ _ (next s p) _ (word_ends_at 11 65536 p) (ends_at_pick (high_fits e (payload_at s p)) _ _ _ (ok_ends_at (next s p)) (err_ends_at (BadWord p) (next s p)))
 
-  low_lands : (e p : ℕ) → Lands (low_form s e p) (next s p)
+  low_ends_at : (e p : ℕ) → EndsAt (low_form s e p) (next s p)
   unfolding low_form
-  low_lands e p = lands_then _ _ (next s p) _ (word_lands 11 65536 p) (lands_pick (low_fits e (payload_at s p)) _ _ _ (lands_at (next s p)) (lands_never (BadWord p) (next s p)))
+  low_ends_at e p = ends_at_then _ _ (next s p) _ (word_ends_at 11 65536 p) (ends_at_pick (low_fits e (payload_at s p)) _ _ _ (ok_ends_at (next s p)) (err_ends_at (BadWord p) (next s p)))
 
-  number_lands : (p : ℕ) → Lands (number_form s p) (next s (next s (next s p)))
+  number_ends_at : (p : ℕ) → EndsAt (number_form s p) (next s (next s (next s p)))
   unfolding number_form
-  number_lands p = lands_then _ _ (next s p) _ (word_lands 10 257 p) (lands_then _ _ (next s (next s p)) _ (high_lands (payload_at s p) (next s p)) (low_lands (payload_at s p) (next s (next s p))))
+  number_ends_at p = ends_at_then _ _ (next s p) _ (word_ends_at 10 257 p) (ends_at_then _ _ (next s (next s p)) _ (high_ends_at (payload_at s p) (next s p)) (low_ends_at (payload_at s p) (next s (next s p))))
 
-  pub head_lands : (c : Sort) (p : ℕ) → Lands (head_form s c p) (next s p)
-  head_lands c p = lands_pick (both (eqb (kind_at s p) (node_kind c)) (may_stand c (payload_at s p))) _ _ _ (lands_at (next s p)) (lands_never (BadWord p) (next s p))
+  pub head_ends_at : (c : Sort) (p : ℕ) → EndsAt (head_form s c p) (next s p)
+  head_ends_at c p = ends_at_pick (both (eqb (kind_at s p) (node_kind c)) (may_stand c (payload_at s p))) _ _ _ (ok_ends_at (next s p)) (err_ends_at (BadWord p) (next s p))
 
-  pub range_lands : (line : Line) (p : ℕ) → Lands (range_form s line p) (next s p)
+  pub range_ends_at : (line : Line) (p : ℕ) → EndsAt (range_form s line p) (next s p)
   unfolding range_form
-  range_lands line p = lands_then _ _ (next s p) _ (word_lands 1 16777216 p) (lands_pick (in_line line (range_at s p)) _ _ _ (lands_at (next s p)) (lands_never (BadRange p) (next s p)))
+  range_ends_at line p = ends_at_then _ _ (next s p) _ (word_ends_at 1 16777216 p) (ends_at_pick (in_line line (range_at s p)) _ _ _ (ok_ends_at (next s p)) (err_ends_at (BadRange p) (next s p)))
 
-  text_lands : (line : Line) (p : ℕ) → Lands (text_form s line p) (next s p)
+  text_ends_at : (line : Line) (p : ℕ) → EndsAt (text_form s line p) (next s p)
   unfolding text_form
-  text_lands line p = lands_then _ _ (next s p) _ (range_lands line p) (lands_pick (has_unit (range_at s p)) _ _ _ (lands_at (next s p)) (lands_never (BadRange p) (next s p)))
+  text_ends_at line p = ends_at_then _ _ (next s p) _ (range_ends_at line p) (ends_at_pick (has_unit (range_at s p)) _ _ _ (ok_ends_at (next s p)) (err_ends_at (BadRange p) (next s p)))
 
-  datum_lands : (line : Line) (p : ℕ) → Lands (datum_form s line p) (next s (next s p))
+  datum_ends_at : (line : Line) (p : ℕ) → EndsAt (datum_form s line p) (next s (next s p))
   unfolding datum_form
-  datum_lands line p =
-      lands_then _ _ (next s p) _ (range_lands line p) (lands_then _ _ (next s (next s p)) _ (word_lands 5 2 (next s p))
-      (lands_pick (lacks_unit (payload_at s (next s p)) (range_at s p)) _ _ _ (lands_never (BadRange p) (next s (next s p))) (lands_at (next s (next s p)))))
+  datum_ends_at line p =
+      ends_at_then _ _ (next s p) _ (range_ends_at line p) (ends_at_then _ _ (next s (next s p)) _ (word_ends_at 5 2 (next s p))
+      (ends_at_pick (lacks_unit (payload_at s (next s p)) (range_at s p)) _ _ _ (err_ends_at (BadRange p) (next s (next s p))) (ok_ends_at (next s (next s p)))))
 
   module _ (t : List ℕ) (line : Line) where
-    name_lands : (p : ℕ) → Lands (name_form s t line p) (next s p)
+    name_ends_at : (p : ℕ) → EndsAt (name_form s t line p) (next s p)
     unfolding name_form
-    name_lands p = lands_then _ _ (next s p) _ (range_lands line p) (lands_pick (is_name_range s t line (range_at s p)) _ _ _ (lands_at (next s p)) (lands_never (BadRange p) (next s p)))
+    name_ends_at p = ends_at_then _ _ (next s p) _ (range_ends_at line p) (ends_at_pick (is_name_range s t line (range_at s p)) _ _ _ (ok_ends_at (next s p)) (err_ends_at (BadRange p) (next s p)))
 
-    module _ (child : Sort → ℕ → Walk) (skip : Sort → ℕ → ℕ) (below : (c : Sort) (p : ℕ) → Lands (child c p) (skip c p)) where
-      source_lands : (n p : ℕ) → Lands (source_rest s t line child n p) (skip_source s skip n p)
-      source_lands zero p = lands_at p
-      source_lands (suc zero) p = text_lands line p
-      source_lands (suc (suc n)) p = below Expr p
+    module _ (child : Sort → ℕ → Walk) (skip : Sort → ℕ → ℕ) (below : (c : Sort) (p : ℕ) → EndsAt (child c p) (skip c p)) where
+      source_ends_at : (n p : ℕ) → EndsAt (source_rest s t line child n p) (skip_source s skip n p)
+      source_ends_at zero p = ok_ends_at p
+      source_ends_at (suc zero) p = text_ends_at line p
+      source_ends_at (suc (suc n)) p = below Expr p
 
-      element_lands : (n p : ℕ) → Lands (element_rest s t line child n p) (skip_element s skip n p)
-      element_lands zero p = below Expr p
-      element_lands (suc n) p = range_lands line p
+      element_ends_at : (n p : ℕ) → EndsAt (element_rest s t line child n p) (skip_element s skip n p)
+      element_ends_at zero p = below Expr p
+      element_ends_at (suc n) p = range_ends_at line p
 
-      pub item_lands : (i : Item) (p : ℕ) → Lands (item_form s t line child i p) (skip_item s skip i p)
+      pub item_ends_at : (i : Item) (p : ℕ) → EndsAt (item_form s t line child i p) (skip_item s skip i p)
       unfolding item_form skip_item
-      item_lands Nothing p = lands_at p
-      item_lands (Word k n) p = word_lands (kind_number k) n p
-      item_lands range p = range_lands line p
-      item_lands name p = name_lands p
-      item_lands optionalName p = lands_either (is_absent s p) (absent_form s) (name_form s t line) p (next s p) (word_lands 2 1 p) (name_lands p)
-      item_lands text p = text_lands line p
-      item_lands (Node c) p = below c p
-      item_lands number p = number_lands p
-      item_lands optionalLabel p = lands_either (is_absent s p) (absent_form s) (take_word s 3 65536) p (next s p) (word_lands 2 1 p) (word_lands 3 65536 p)
-      item_lands source p = lands_then _ _ (next s p) _ (word_lands 7 3 p) (source_lands (payload_at s p) (next s p))
-      item_lands element p = lands_then _ _ (next s p) _ (word_lands 8 3 p) (element_lands (payload_at s p) (next s p))
-      item_lands datum p = datum_lands line p
+      item_ends_at Nothing p = ok_ends_at p
+      item_ends_at (Word k n) p = word_ends_at (kind_number k) n p
+      item_ends_at range p = range_ends_at line p
+      item_ends_at name p = name_ends_at p
+      item_ends_at optionalName p = ends_at_either (is_absent s p) (absent_form s) (name_form s t line) p (next s p) (word_ends_at 2 1 p) (name_ends_at p)
+      item_ends_at text p = text_ends_at line p
+      item_ends_at (Node c) p = below c p
+      item_ends_at number p = number_ends_at p
+      item_ends_at optionalLabel p = ends_at_either (is_absent s p) (absent_form s) (take_word s 3 65536) p (next s p) (word_ends_at 2 1 p) (word_ends_at 3 65536 p)
+      item_ends_at source p = ends_at_then _ _ (next s p) _ (word_ends_at 7 3 p) (source_ends_at (payload_at s p) (next s p))
+      item_ends_at element p = ends_at_then _ _ (next s p) _ (word_ends_at 8 3 p) (element_ends_at (payload_at s p) (next s p))
+      item_ends_at datum p = datum_ends_at line p
 
-      pair_lands : (a b : Item) (p : ℕ) → Lands (pair_form s t line child a b p) (skip_pair s skip a b p)
+      pub pair_ends_at : (a b : Item) (p : ℕ) → EndsAt (pair_form s t line child a b p) (skip_pair s skip a b p)
       unfolding pair_form skip_pair
-      pair_lands a b p = lands_then _ _ (skip_item s skip a p) _ (item_lands a p) (item_lands b (skip_item s skip a p))
+      pair_ends_at a b p = ends_at_then _ _ (skip_item s skip a p) _ (item_ends_at a p) (item_ends_at b (skip_item s skip a p))
 
-      expr_own_lands : (k p : ℕ) → Lands (item_form s t line child (expr_range_item k) p) (next s p)
+      expr_own_ends_at : (k p : ℕ) → EndsAt (item_form s t line child (expr_range_item k) p) (next s p)
       unfolding item_form
-      expr_own_lands zero p = name_lands p
-      expr_own_lands (suc zero) p = text_lands line p
-      expr_own_lands (suc (suc k)) p = range_lands line p
+      expr_own_ends_at zero p = name_ends_at p
+      expr_own_ends_at (suc zero) p = text_ends_at line p
+      expr_own_ends_at (suc (suc k)) p = range_ends_at line p
 
-      pub own_lands : (c : Sort) (k p : ℕ) → Lands (item_form s t line child (own_range c k) p) (next s p)
+      pub own_ends_at : (c : Sort) (k p : ℕ) → EndsAt (item_form s t line child (own_range c k) p) (next s p)
       unfolding item_form
-      own_lands Expr k p = expr_own_lands k p
-      own_lands Place k p = expr_own_lands k p
-      own_lands InputPlace k p = expr_own_lands k p
-      own_lands Stmt k p = range_lands line p
+      own_ends_at Expr k p = expr_own_ends_at k p
+      own_ends_at Place k p = expr_own_ends_at k p
+      own_ends_at InputPlace k p = expr_own_ends_at k p
+      own_ends_at Stmt k p = range_ends_at line p
 
-    module _ (f : ℕ → Walk) (d : ℕ → ℕ) (each : (p : ℕ) → Lands (f p) (d p)) where
-      repeat_lands : (n p : ℕ) → Lands (repeat_form s t line f n p) (skip_repeat s d n p)
+    module _ (f : ℕ → Walk) (d : ℕ → ℕ) (each : (p : ℕ) → EndsAt (f p) (d p)) where
+      repeat_ends_at : (n p : ℕ) → EndsAt (repeat_form s t line f n p) (skip_repeat s d n p)
       unfolding repeat_form skip_repeat
-      repeat_lands zero p = lands_at p
-      repeat_lands (suc n) p = lands_then _ _ (d p) _ (each p) (repeat_lands n (d p))
+      repeat_ends_at zero p = ok_ends_at p
+      repeat_ends_at (suc n) p = ends_at_then _ _ (d p) _ (each p) (repeat_ends_at n (d p))
 
-      pub list_lands : (p : ℕ) → Lands (list_form s t line f p) (skip_list s d p)
+      pub list_ends_at : (p : ℕ) → EndsAt (list_form s t line f p) (skip_list s d p)
       unfolding list_form skip_list
-      list_lands p = lands_then _ _ (next s p) _ (word_lands 4 16777216 p) (repeat_lands (payload_at s p) (next s p))
+      list_ends_at p = ends_at_then _ _ (next s p) _ (word_ends_at 4 16777216 p) (repeat_ends_at (payload_at s p) (next s p))
 
-      times_lands : (m : Times) (p : ℕ) → Lands (times_form s t line m f p) (skip_times s m d p)
+      times_ends_at : (m : Times) (p : ℕ) → EndsAt (times_form s t line m f p) (skip_times s m d p)
       unfolding times_form skip_times
-      times_lands Once p = each p
-      times_lands Optional p = lands_choose (is_absent s p) (absent_form s) f (next s) d p (word_lands 2 1 p) (each p)
-      times_lands Listed p = list_lands p
-      times_lands NonEmpty p = lands_then _ _ (next s p) _ (non_empty_lands p) (list_lands p)
-      times_lands OptionalList p = lands_choose (is_absent s p) (absent_form s) (list_form s t line f) (next s) (skip_list s d) p (word_lands 2 1 p) (list_lands p)
+      times_ends_at Once p = each p
+      times_ends_at Optional p = ends_at_choose (is_absent s p) (absent_form s) f (next s) d p (word_ends_at 2 1 p) (each p)
+      times_ends_at Listed p = list_ends_at p
+      times_ends_at NonEmpty p = ends_at_then _ _ (next s p) _ (non_empty_ends_at p) (list_ends_at p)
+      times_ends_at OptionalList p = ends_at_choose (is_absent s p) (absent_form s) (list_form s t line f) (next s) (skip_list s d) p (word_ends_at 2 1 p) (list_ends_at p)
 
-    module _ (child : Sort → ℕ → Walk) (skip : Sort → ℕ → ℕ) (below : (c : Sort) (p : ℕ) → Lands (child c p) (skip c p)) where
-      pub field_lands : (f : Field) (p : ℕ) → Lands (field_form s t line child f p) (skip_field s skip f p)
+    module _ (child : Sort → ℕ → Walk) (skip : Sort → ℕ → ℕ) (below : (c : Sort) (p : ℕ) → EndsAt (child c p) (skip c p)) where
+      pub field_ends_at : (f : Field) (p : ℕ) → EndsAt (field_form s t line child f p) (skip_field s skip f p)
       unfolding field_form skip_field
-      field_lands f p = times_lands _ _ (pair_lands child skip below f.first f.second) f.times p
+      field_ends_at f p = times_ends_at _ _ (pair_ends_at child skip below f.first f.second) f.times p
 
-      fields_lands : (fs : List Field) (p : ℕ) → Lands (fields_form s t line child fs p) (skip_fields s skip fs p)
+      fields_ends_at : (fs : List Field) (p : ℕ) → EndsAt (fields_form s t line child fs p) (skip_fields s skip fs p)
       unfolding fields_form skip_fields
-      fields_lands [] p = lands_at p
-      fields_lands (f ∷ fs) p = lands_then _ _ (skip_field s skip f p) _ (field_lands f p) (fields_lands fs (skip_field s skip f p))
+      fields_ends_at [] p = ok_ends_at p
+      fields_ends_at (f ∷ fs) p = ends_at_then _ _ (skip_field s skip f p) _ (field_ends_at f p) (fields_ends_at fs (skip_field s skip f p))
 
-      body_lands : (c : Sort) (k p : ℕ) → Lands (body_form s t line child c k p) (skip_fields s skip (fields_of c k) (next s p))
+      body_ends_at : (c : Sort) (k p : ℕ) → EndsAt (body_form s t line child c k p) (skip_fields s skip (fields_of c k) (next s p))
       unfolding body_form
-      body_lands c k p = lands_then _ _ (next s p) _ (own_lands child skip below c k p) (fields_lands (fields_of c k) (next s p))
+      body_ends_at c k p = ends_at_then _ _ (next s p) _ (own_ends_at child skip below c k p) (fields_ends_at (fields_of c k) (next s p))
 
-    pub node_lands : (left : ℕ) (c : Sort) (p : ℕ) → Lands (node_form s t line left c p) (skip_node s left c p)
+    pub node_ends_at : (left : ℕ) (c : Sort) (p : ℕ) → EndsAt (node_form s t line left c p) (skip_node s left c p)
     unfolding node_form skip_node
-    node_lands zero c p = lands_then _ _ (next s p) _ (head_lands c p) (lands_never _ p)
-    node_lands (suc left) c p =
-        lands_then _ _ (next s p) _ (head_lands c p)
-        (lands_then _ _ (next s p) _ (lands_pick (is_fseek c (payload_at s p)) _ _ _ (lands_never (Fseek p) (next s p)) (lands_at (next s p)))
-        (body_lands (node_form s t line left) (skip_node s left) (node_lands left) c (payload_at s p) (next s p)))
+    node_ends_at zero c p = ends_at_then _ _ (next s p) _ (head_ends_at c p) (err_ends_at _ p)
+    node_ends_at (suc left) c p =
+        ends_at_then _ _ (next s p) _ (head_ends_at c p)
+        (ends_at_then _ _ (next s p) _ (ends_at_pick (is_fseek c (payload_at s p)) _ _ _ (err_ends_at (Fseek p) (next s p)) (ok_ends_at (next s p)))
+        (body_ends_at (node_form s t line left) (skip_node s left) (node_ends_at left) c (payload_at s p) (next s p)))
 
     -- THEOREM: behind an accepted statement or expression stands what the skip finds
     pub accepted : (left : ℕ) (c : Sort) (p q : ℕ) → node_form s t line left c p ≡ Ok q → q ≡ skip_node s left c p
-    accepted left c p q e = (node_lands left c p).ends q e
+    accepted left c p q e = (node_ends_at left c p).ends q e

@@ -25,7 +25,7 @@ use Rattle.sheet.specs.Table.{kind_number, expr_table, stmt_table, expr_fields, 
 use Rattle.sheet.specs.Check.{offence_place}
 use Rattle.sheet.specs.Form.{then, is_absent, has_unit, is_name_range, take_word, absent_form, non_empty_form, high_form, low_form, number_form, head_form, fseek_form, in_line, range_form, text_form, datum_form, label_form, name_form, source_rest, element_rest, item_form, pair_form, repeat_form, list_form, times_form, field_form, fields_form, body_form, node_form, line_of, line_head, line_form, end_form, lines_form, sheet_form, high_fits, low_fits, lacks_unit}
 use Rattle.walk.proofs.Steps.{Ends, end_of, to_next, high_ends, low_ends, range_ends, word_ends, item_ends, pair_ends, repeat_ends, list_ends, fields_ends, body_ends_lem, node_ends, label_ends}
-use Rattle.walk.proofs.Accepted.{Lands, lands_at, lands_never, lands_pick, lands_then, word_lands, non_empty_lands, head_lands, range_lands}
+use Rattle.walk.proofs.Accepted.{EndsAt, ok_ends_at, err_ends_at, ends_at_pick, ends_at_then, word_ends_at, non_empty_ends_at, head_ends_at, range_ends_at}
 use Rattle.walk.proofs.Within.{line_ends, lines_ends}
 
 -- how many words decide a walk: those before its end, or those up to the offending one and one word more
@@ -79,47 +79,47 @@ then_agrees n (Ok q) w' f f' a m b = record { same = λ h. let k : q ≤ reads (
 then_agrees n (Err o) w' f f' a m b = record { same = λ h. ap (λ (v : Walk). then v f') (a.same h) }
 
 -- an item that reads a word: all but nothing
-abbrev solid : Item → Bool
-solid Nothing = false
-solid (Word k n) = true
-solid range = true
-solid name = true
-solid optionalName = true
-solid text = true
-solid (Node c) = true
-solid number = true
-solid optionalLabel = true
-solid source = true
-solid element = true
-solid datum = true
+abbrev reads_word : Item → Bool
+reads_word Nothing = false
+reads_word (Word k n) = true
+reads_word range = true
+reads_word name = true
+reads_word optionalName = true
+reads_word text = true
+reads_word (Node c) = true
+reads_word number = true
+reads_word optionalLabel = true
+reads_word source = true
+reads_word element = true
+reads_word datum = true
 
-abbrev solid_fields : List Field → Bool
-solid_fields [] = true
-solid_fields (f ∷ fs) = both (solid f.first) (solid_fields fs)
+abbrev fields_read_words : List Field → Bool
+fields_read_words [] = true
+fields_read_words (f ∷ fs) = both (reads_word f.first) (fields_read_words fs)
 
-abbrev solid_rows : List (List Field) → Bool
-solid_rows [] = true
-solid_rows (r ∷ rs) = both (solid_fields r) (solid_rows rs)
+abbrev rows_read_words : List (List Field) → Bool
+rows_read_words [] = true
+rows_read_words (r ∷ rs) = both (fields_read_words r) (rows_read_words rs)
 
-row_solid : (rs : List (List Field)) (k : ℕ) → solid_rows rs ≡ true → solid_fields (get_or rs k []) ≡ true
-row_solid [] k e = refl
-row_solid (r ∷ rs) zero e = both_left (solid_fields r) (solid_rows rs) e
-row_solid (r ∷ rs) (suc k) e = row_solid rs k (both_right (solid_fields r) (solid_rows rs) e)
+row_reads_words : (rs : List (List Field)) (k : ℕ) → rows_read_words rs ≡ true → fields_read_words (get_or rs k []) ≡ true
+row_reads_words [] k e = refl
+row_reads_words (r ∷ rs) zero e = both_left (fields_read_words r) (rows_read_words rs) e
+row_reads_words (r ∷ rs) (suc k) e = row_reads_words rs k (both_right (fields_read_words r) (rows_read_words rs) e)
 
-expr_solid : (k : ℕ) → solid_fields (expr_fields k) ≡ true
+expr_reads_words : (k : ℕ) → fields_read_words (expr_fields k) ≡ true
 unfolding expr_fields
-expr_solid k = row_solid expr_table k refl
+expr_reads_words k = row_reads_words expr_table k refl
 
-stmt_solid : (k : ℕ) → solid_fields (stmt_fields k) ≡ true
+stmt_reads_words : (k : ℕ) → fields_read_words (stmt_fields k) ≡ true
 unfolding stmt_fields
-stmt_solid k = row_solid stmt_table k refl
+stmt_reads_words k = row_reads_words stmt_table k refl
 
 -- every field of the form begins with a word
-node_solid : (c : Sort) (k : ℕ) → solid_fields (fields_of c k) ≡ true
-node_solid Expr k = expr_solid k
-node_solid Place k = expr_solid k
-node_solid InputPlace k = expr_solid k
-node_solid Stmt k = stmt_solid k
+node_reads_words : (c : Sort) (k : ℕ) → fields_read_words (fields_of c k) ≡ true
+node_reads_words Expr k = expr_reads_words k
+node_reads_words Place k = expr_reads_words k
+node_reads_words InputPlace k = expr_reads_words k
+node_reads_words Stmt k = stmt_reads_words k
 
 module _ (s s' : List ℕ) (n : ℕ) (al : Alike s s' n) where
   same_word : (p : ℕ) → next s p ≤ n → get_or s p 0 ≡ get_or s' p 0
@@ -139,7 +139,7 @@ module _ (s s' : List ℕ) (n : ℕ) (al : Alike s s' n) where
   swap p H H' a m = record { same = λ h. ((a (get_or s p 0)).same h) ∙ ap H' (same_word p (omega (arith, m, h))) }
 
   -- a first part that ends behind the word at p, and what goes on by that word
-  branch : (p : ℕ) (w w' : Walk) (H H' : ℕ → ℕ → Walk) → Lands w (next s p) → Agrees n w w' → ((x q : ℕ) → q ≡ next s p → q ≤ reads (H x q))
+  branch : (p : ℕ) (w w' : Walk) (H H' : ℕ → ℕ → Walk) → EndsAt w (next s p) → Agrees n w w' → ((x q : ℕ) → q ≡ next s p → q ≤ reads (H x q))
       → ((x q : ℕ) → q ≡ next s p → Agrees n (H x q) (H' x q)) → Agrees n (then w (λ q. H (get_or s p 0) q)) (then w' (λ q. H' (get_or s' p 0) q))
   branch p w w' H H' l a m b =
       then_agrees n w w' (λ q. H (get_or s p 0) q) (λ q. H' (get_or s' p 0) q) a (λ q e. m (get_or s p 0) q (l.ends q e))
@@ -174,25 +174,25 @@ module _ (s s' : List ℕ) (n : ℕ) (al : Alike s s' n) where
   bad_first : (p q : ℕ) (b : Bool) (o : Offence) → offence_place o ≡ p → q ≡ next s p → q ≤ reads (pick b (Err o) (Ok q))
   bad_first p q b o e h = let k : next s p ≤ p + 1 = next_near s p in pick_reads q b (Err o) (Ok q) (omega (arith, e, h, k)) (omega arith)
 
-  tested : (p : ℕ) (w w' : Walk) (T : ℕ → Bool) (o : Offence) → offence_place o ≡ p → Lands w (next s p) → Agrees n w w'
+  tested : (p : ℕ) (w w' : Walk) (T : ℕ → Bool) (o : Offence) → offence_place o ≡ p → EndsAt w (next s p) → Agrees n w w'
       → Agrees n (then w (λ q. pick (T (get_or s p 0)) (Ok q) (Err o))) (then w' (λ q. pick (T (get_or s' p 0)) (Ok q) (Err o)))
   tested p w w' T o e l a = branch p w w' (λ x q. pick (T x) (Ok q) (Err o)) (λ x q. pick (T x) (Ok q) (Err o)) l a (λ x q h. good_first p q (T x) o e h) (λ x q h. same_agrees n _)
 
-  tested_reads : (p : ℕ) (w : Walk) (b : Bool) (o : Offence) → offence_place o ≡ p → Lands w (next s p) → next s p ≤ reads w → next s p ≤ reads (then w (λ q. pick b (Ok q) (Err o)))
+  tested_reads : (p : ℕ) (w : Walk) (b : Bool) (o : Offence) → offence_place o ≡ p → EndsAt w (next s p) → next s p ≤ reads w → next s p ≤ reads (then w (λ q. pick b (Ok q) (Err o)))
   tested_reads p w b o e l m = then_reads (next s p) w (λ q. pick b (Ok q) (Err o)) m (λ q h. good_first p q b o e (l.ends q h))
 
   non_empty_agrees : (p : ℕ) → Agrees n (non_empty_form s p) (non_empty_form s' p)
   unfolding non_empty_form
   non_empty_agrees p = branch p (take_word s 4 16777216 p) (take_word s' 4 16777216 p) (λ x q. pick (eqb (payload x) 0) (Err (BadWord p)) (Ok q)) (λ x q. pick (eqb (payload x) 0) (Err (BadWord p)) (Ok q))
-      (word_lands s 4 16777216 p) (word_agrees 4 16777216 p) (λ x q h. bad_first p q (eqb (payload x) 0) (BadWord p) refl h) (λ x q h. same_agrees n _)
+      (word_ends_at s 4 16777216 p) (word_agrees 4 16777216 p) (λ x q h. bad_first p q (eqb (payload x) 0) (BadWord p) refl h) (λ x q h. same_agrees n _)
 
   high_agrees : (e p : ℕ) → Agrees n (high_form s e p) (high_form s' e p)
   unfolding high_form
-  high_agrees e p = tested p (take_word s 11 65536 p) (take_word s' 11 65536 p) (λ x. high_fits e (payload x)) (BadWord p) refl (word_lands s 11 65536 p) (word_agrees 11 65536 p)
+  high_agrees e p = tested p (take_word s 11 65536 p) (take_word s' 11 65536 p) (λ x. high_fits e (payload x)) (BadWord p) refl (word_ends_at s 11 65536 p) (word_agrees 11 65536 p)
 
   low_agrees : (e p : ℕ) → Agrees n (low_form s e p) (low_form s' e p)
   unfolding low_form
-  low_agrees e p = tested p (take_word s 11 65536 p) (take_word s' 11 65536 p) (λ x. low_fits e (payload x)) (BadWord p) refl (word_lands s 11 65536 p) (word_agrees 11 65536 p)
+  low_agrees e p = tested p (take_word s 11 65536 p) (take_word s' 11 65536 p) (λ x. low_fits e (payload x)) (BadWord p) refl (word_ends_at s 11 65536 p) (word_agrees 11 65536 p)
 
   -- what goes on at q ends at or behind q
   forward : (q : ℕ) (w : Walk) → Ends s q w → q ≤ reads w
@@ -208,7 +208,7 @@ module _ (s s' : List ℕ) (n : ℕ) (al : Alike s s' n) where
   unfolding number_form
   number_agrees p =
       branch p (take_word s 10 257 p) (take_word s' 10 257 p) (λ x q. then (high_form s (payload x) q) (λ r. low_form s (payload x) r)) (λ x q. then (high_form s' (payload x) q) (λ r. low_form s' (payload x) r))
-      (word_lands s 10 257 p) (word_agrees 10 257 p) (λ x q h. number_rest_reads (payload x) q) (λ x q h. number_rest_agrees (payload x) q)
+      (word_ends_at s 10 257 p) (word_agrees 10 257 p) (λ x q h. number_rest_reads (payload x) q) (λ x q h. number_rest_agrees (payload x) q)
 
   number_reads : (p : ℕ) → next s p ≤ reads (number_form s p)
   unfolding number_form
@@ -217,19 +217,19 @@ module _ (s s' : List ℕ) (n : ℕ) (al : Alike s s' n) where
   module _ (line : Line) where
     range_agrees : (p : ℕ) → Agrees n (range_form s line p) (range_form s' line p)
     unfolding range_form
-    range_agrees p = tested p (take_word s 1 16777216 p) (take_word s' 1 16777216 p) (λ x. in_line line (range_of x)) (BadRange p) refl (word_lands s 1 16777216 p) (word_agrees 1 16777216 p)
+    range_agrees p = tested p (take_word s 1 16777216 p) (take_word s' 1 16777216 p) (λ x. in_line line (range_of x)) (BadRange p) refl (word_ends_at s 1 16777216 p) (word_agrees 1 16777216 p)
 
     range_reads : (p : ℕ) → next s p ≤ reads (range_form s line p)
     unfolding range_form
-    range_reads p = tested_reads p (take_word s 1 16777216 p) (in_line line (range_at s p)) (BadRange p) refl (word_lands s 1 16777216 p) (word_reads 1 16777216 p)
+    range_reads p = tested_reads p (take_word s 1 16777216 p) (in_line line (range_at s p)) (BadRange p) refl (word_ends_at s 1 16777216 p) (word_reads 1 16777216 p)
 
     text_agrees : (p : ℕ) → Agrees n (text_form s line p) (text_form s' line p)
     unfolding text_form
-    text_agrees p = tested p (range_form s line p) (range_form s' line p) (λ x. has_unit (range_of x)) (BadRange p) refl (range_lands s line p) (range_agrees p)
+    text_agrees p = tested p (range_form s line p) (range_form s' line p) (λ x. has_unit (range_of x)) (BadRange p) refl (range_ends_at s line p) (range_agrees p)
 
     text_reads : (p : ℕ) → next s p ≤ reads (text_form s line p)
     unfolding text_form
-    text_reads p = tested_reads p (range_form s line p) (has_unit (range_at s p)) (BadRange p) refl (range_lands s line p) (range_reads p)
+    text_reads p = tested_reads p (range_form s line p) (has_unit (range_at s p)) (BadRange p) refl (range_ends_at s line p) (range_reads p)
 
     -- the word behind a datum's range: the one word more
     datum_rest_reads : (p q x : ℕ) → q ≡ next s p → q ≤ reads (then (take_word s 5 2 q) (λ r. pick (lacks_unit (payload_at s q) (range_of x)) (Err (BadRange p)) (Ok r)))
@@ -239,7 +239,7 @@ module _ (s s' : List ℕ) (n : ℕ) (al : Alike s s' n) where
         let d : next s p ≤ p + 1 = next_near s p in
         let m : next s q ≤ reads (take_word s 5 2 q) = word_reads 5 2 q in
         then_reads q (take_word s 5 2 q) (λ r. pick (lacks_unit (payload_at s q) (range_of x)) (Err (BadRange p)) (Ok r)) (omega (arith, a, m))
-        (λ r e. let k : r ≡ next s q = (word_lands s 5 2 q).ends r e in pick_reads r (lacks_unit (payload_at s q) (range_of x)) (Err (BadRange p)) (Ok r) (omega (arith, k, b, h, d)) (omega arith))
+        (λ r e. let k : r ≡ next s q = (word_ends_at s 5 2 q).ends r e in pick_reads r (lacks_unit (payload_at s q) (range_of x)) (Err (BadRange p)) (Ok r) (omega (arith, k, b, h, d)) (omega arith))
 
     datum_rest_agrees : (p q x : ℕ) → q ≡ next s p
         → Agrees n (then (take_word s 5 2 q) (λ r. pick (lacks_unit (payload_at s q) (range_of x)) (Err (BadRange p)) (Ok r)))
@@ -248,7 +248,7 @@ module _ (s s' : List ℕ) (n : ℕ) (al : Alike s s' n) where
         let b : next s q ≤ q + 1 = next_near s q in
         let d : next s p ≤ p + 1 = next_near s p in
         branch q (take_word s 5 2 q) (take_word s' 5 2 q) (λ y r. pick (lacks_unit (payload y) (range_of x)) (Err (BadRange p)) (Ok r)) (λ y r. pick (lacks_unit (payload y) (range_of x)) (Err (BadRange p)) (Ok r))
-        (word_lands s 5 2 q) (word_agrees 5 2 q)
+        (word_ends_at s 5 2 q) (word_agrees 5 2 q)
         (λ y r k. pick_reads r (lacks_unit (payload y) (range_of x)) (Err (BadRange p)) (Ok r) (omega (arith, k, b, h, d)) (omega arith)) (λ y r k. same_agrees n _)
 
     datum_agrees : (p : ℕ) → Agrees n (datum_form s line p) (datum_form s' line p)
@@ -257,13 +257,13 @@ module _ (s s' : List ℕ) (n : ℕ) (al : Alike s s' n) where
         branch p (range_form s line p) (range_form s' line p)
         (λ x q. then (take_word s 5 2 q) (λ r. pick (lacks_unit (payload_at s q) (range_of x)) (Err (BadRange p)) (Ok r)))
         (λ x q. then (take_word s' 5 2 q) (λ r. pick (lacks_unit (payload_at s' q) (range_of x)) (Err (BadRange p)) (Ok r)))
-        (range_lands s line p) (range_agrees p) (λ x q h. datum_rest_reads p q x h) (λ x q h. datum_rest_agrees p q x h)
+        (range_ends_at s line p) (range_agrees p) (λ x q h. datum_rest_reads p q x h) (λ x q h. datum_rest_agrees p q x h)
 
     datum_reads : (p : ℕ) → next s p ≤ reads (datum_form s line p)
     unfolding datum_form
     datum_reads p =
         then_reads (next s p) (range_form s line p) (λ q. then (take_word s 5 2 q) (λ r. pick (lacks_unit (payload_at s q) (range_at s p)) (Err (BadRange p)) (Ok r)))
-        (range_reads p) (λ q e. datum_rest_reads p q (get_or s p 0) ((range_lands s line p).ends q e))
+        (range_reads p) (λ q e. datum_rest_reads p q (get_or s p 0) ((range_ends_at s line p).ends q e))
 
     -- absent, or something that reads the word there
     optional_agrees : (p : ℕ) (g g' : ℕ → Walk) → Agrees n (g p) (g' p) → next s p ≤ reads (g p)
@@ -286,11 +286,11 @@ module _ (s s' : List ℕ) (n : ℕ) (al : Alike s s' n) where
     module _ (t : List ℕ) where
       name_agrees : (p : ℕ) → Agrees n (name_form s t line p) (name_form s' t line p)
       unfolding name_form
-      name_agrees p = tested p (range_form s line p) (range_form s' line p) (λ x. is_name_range s t line (range_of x)) (BadRange p) refl (range_lands s line p) (range_agrees p)
+      name_agrees p = tested p (range_form s line p) (range_form s' line p) (λ x. is_name_range s t line (range_of x)) (BadRange p) refl (range_ends_at s line p) (range_agrees p)
 
       name_reads : (p : ℕ) → next s p ≤ reads (name_form s t line p)
       unfolding name_form
-      name_reads p = tested_reads p (range_form s line p) (is_name_range s t line (range_at s p)) (BadRange p) refl (range_lands s line p) (range_reads p)
+      name_reads p = tested_reads p (range_form s line p) (is_name_range s t line (range_at s p)) (BadRange p) refl (range_ends_at s line p) (range_reads p)
 
       -- what a child has to give
       module _ (child child' : Sort → ℕ → Walk) (below : (c : Sort) (p : ℕ) → Ends s p (child c p)) (first : (c : Sort) (p : ℕ) → next s p ≤ reads (child c p))
@@ -326,13 +326,13 @@ module _ (s s' : List ℕ) (n : ℕ) (al : Alike s s' n) where
         item_agrees optionalLabel p = optional_agrees p (take_word s 3 65536) (take_word s' 3 65536) (word_agrees 3 65536 p) (word_reads 3 65536 p)
         item_agrees source p =
             branch p (take_word s 7 3 p) (take_word s' 7 3 p) (λ x q. source_rest s t line child (payload x) q) (λ x q. source_rest s' t line child' (payload x) q)
-            (word_lands s 7 3 p) (word_agrees 7 3 p) (λ x q h. source_reads (payload x) q) (λ x q h. source_agrees (payload x) q)
+            (word_ends_at s 7 3 p) (word_agrees 7 3 p) (λ x q h. source_reads (payload x) q) (λ x q h. source_agrees (payload x) q)
         item_agrees element p =
             branch p (take_word s 8 3 p) (take_word s' 8 3 p) (λ x q. element_rest s t line child (payload x) q) (λ x q. element_rest s' t line child' (payload x) q)
-            (word_lands s 8 3 p) (word_agrees 8 3 p) (λ x q h. element_reads (payload x) q) (λ x q h. element_agrees (payload x) q)
+            (word_ends_at s 8 3 p) (word_agrees 8 3 p) (λ x q h. element_reads (payload x) q) (λ x q h. element_agrees (payload x) q)
         item_agrees datum p = datum_agrees p
 
-        item_reads : (i : Item) (p : ℕ) → solid i ≡ true → next s p ≤ reads (item_form s t line child i p)
+        item_reads : (i : Item) (p : ℕ) → reads_word i ≡ true → next s p ≤ reads (item_form s t line child i p)
         unfolding item_form
         item_reads Nothing p e = let z : ◌≡◌ {A = ℕ} 0 1 = cc in absurd (omega arith)
         item_reads (Word k m) p e = word_reads (kind_number k) m p
@@ -353,7 +353,7 @@ module _ (s s' : List ℕ) (n : ℕ) (al : Alike s s' n) where
             then_agrees n (item_form s t line child a p) (item_form s' t line child' a p) (λ q. item_form s t line child b q) (λ q. item_form s' t line child' b q)
             (item_agrees a p) (λ q h. forward q _ (item_ends s t line child below b q)) (λ q h. item_agrees b q)
 
-        pair_reads : (a b : Item) (p : ℕ) → solid a ≡ true → next s p ≤ reads (pair_form s t line child a b p)
+        pair_reads : (a b : Item) (p : ℕ) → reads_word a ≡ true → next s p ≤ reads (pair_form s t line child a b p)
         unfolding pair_form
         pair_reads a b p e = then_reads (next s p) (item_form s t line child a p) (λ q. item_form s t line child b q) (item_reads a p e) (λ q h. forward q _ (item_ends s t line child below b q))
 
@@ -369,7 +369,7 @@ module _ (s s' : List ℕ) (n : ℕ) (al : Alike s s' n) where
         unfolding list_form
         list_agrees p =
             branch p (take_word s 4 16777216 p) (take_word s' 4 16777216 p) (λ x q. repeat_form s t line f (payload x) q) (λ x q. repeat_form s' t line f' (payload x) q)
-            (word_lands s 4 16777216 p) (word_agrees 4 16777216 p) (λ x q h. forward q _ (repeat_ends s t line f ends (payload x) q)) (λ x q h. repeat_agrees (payload x) q)
+            (word_ends_at s 4 16777216 p) (word_agrees 4 16777216 p) (λ x q h. forward q _ (repeat_ends s t line f ends (payload x) q)) (λ x q h. repeat_agrees (payload x) q)
 
         list_reads : (p : ℕ) → next s p ≤ reads (list_form s t line f p)
         unfolding list_form
@@ -382,30 +382,30 @@ module _ (s s' : List ℕ) (n : ℕ) (al : Alike s s' n) where
         times_agrees Listed p h = list_agrees p
         times_agrees NonEmpty p h =
             then_agrees n (non_empty_form s p) (non_empty_form s' p) (λ q. list_form s t line f p) (λ q. list_form s' t line f' p) (non_empty_agrees p)
-            (λ q e. let k : q ≡ next s p = (non_empty_lands s p).ends q e in let l : next s p ≤ reads (list_form s t line f p) = list_reads p in omega (arith, k, l)) (λ q e. list_agrees p)
+            (λ q e. let k : q ≡ next s p = (non_empty_ends_at s p).ends q e in let l : next s p ≤ reads (list_form s t line f p) = list_reads p in omega (arith, k, l)) (λ q e. list_agrees p)
         times_agrees OptionalList p h = optional_agrees p (list_form s t line f) (list_form s' t line f') (list_agrees p) (list_reads p)
 
       module _ (child child' : Sort → ℕ → Walk) (below : (c : Sort) (p : ℕ) → Ends s p (child c p)) (first : (c : Sort) (p : ℕ) → next s p ≤ reads (child c p))
           (alike : (c : Sort) (p : ℕ) → Agrees n (child c p) (child' c p)) where
-        field_agrees : (f : Field) (p : ℕ) → solid f.first ≡ true → Agrees n (field_form s t line child f p) (field_form s' t line child' f p)
+        field_agrees : (f : Field) (p : ℕ) → reads_word f.first ≡ true → Agrees n (field_form s t line child f p) (field_form s' t line child' f p)
         unfolding field_form
         field_agrees f p e =
             times_agrees (pair_form s t line child f.first f.second) (pair_form s' t line child' f.first f.second) (pair_ends s t line child below f.first f.second)
             (pair_agrees child child' below first alike f.first f.second) f.times p (pair_reads child child' below first alike f.first f.second p e)
 
-        fields_agrees : (fs : List Field) (p : ℕ) → solid_fields fs ≡ true → Agrees n (fields_form s t line child fs p) (fields_form s' t line child' fs p)
+        fields_agrees : (fs : List Field) (p : ℕ) → fields_read_words fs ≡ true → Agrees n (fields_form s t line child fs p) (fields_form s' t line child' fs p)
         unfolding fields_form
         fields_agrees [] p e = same_agrees n _
         fields_agrees (f ∷ fs) p e =
             then_agrees n (field_form s t line child f p) (field_form s' t line child' f p) (λ q. fields_form s t line child fs q) (λ q. fields_form s' t line child' fs q)
-            (field_agrees f p (both_left (solid f.first) (solid_fields fs) e)) (λ q h. forward q _ (fields_ends s t line child below fs q))
-            (λ q h. fields_agrees fs q (both_right (solid f.first) (solid_fields fs) e))
+            (field_agrees f p (both_left (reads_word f.first) (fields_read_words fs) e)) (λ q h. forward q _ (fields_ends s t line child below fs q))
+            (λ q h. fields_agrees fs q (both_right (reads_word f.first) (fields_read_words fs) e))
 
         body_agrees : (c : Sort) (k p : ℕ) → Agrees n (body_form s t line child c k p) (body_form s' t line child' c k p)
         unfolding body_form
         body_agrees c k p =
             then_agrees n (item_form s t line child (own_range c k) p) (item_form s' t line child' (own_range c k) p) (λ q. fields_form s t line child (fields_of c k) q) (λ q. fields_form s' t line child' (fields_of c k) q)
-            (item_agrees child child' below first alike (own_range c k) p) (λ q h. forward q _ (fields_ends s t line child below (fields_of c k) q)) (λ q h. fields_agrees (fields_of c k) q (node_solid c k))
+            (item_agrees child child' below first alike (own_range c k) p) (λ q h. forward q _ (fields_ends s t line child below (fields_of c k) q)) (λ q h. fields_agrees (fields_of c k) q (node_reads_words c k))
 
       node_rest_reads : (left : ℕ) (c : Sort) (p q x : ℕ) → q ≡ next s p
           → q ≤ reads (then (pick (is_fseek c (payload x)) (Err (Fseek p)) (Ok q)) (λ r. body_form s t line (node_form s t line left) c (payload x) r))
@@ -415,41 +415,41 @@ module _ (s s' : List ℕ) (n : ℕ) (al : Alike s s' n) where
 
       node_reads : (left : ℕ) (c : Sort) (p : ℕ) → next s p ≤ reads (node_form s t line left c p)
       unfolding node_form
-      node_reads zero c p = then_reads (next s p) (head_form s c p) (λ q. Err (TooDeep p)) (head_reads c p) (λ q e. let h : q ≡ next s p = (head_lands s c p).ends q e in let k : next s p ≤ p + 1 = next_near s p in omega (arith, h, k))
+      node_reads zero c p = then_reads (next s p) (head_form s c p) (λ q. Err (TooDeep p)) (head_reads c p) (λ q e. let h : q ≡ next s p = (head_ends_at s c p).ends q e in let k : next s p ≤ p + 1 = next_near s p in omega (arith, h, k))
       node_reads (suc left) c p =
           then_reads (next s p) (head_form s c p) (λ q. then (fseek_form s c p q) (λ r. body_form s t line (node_form s t line left) c (payload_at s p) r)) (head_reads c p)
-          (λ q e. node_rest_reads left c p q (get_or s p 0) ((head_lands s c p).ends q e))
+          (λ q e. node_rest_reads left c p q (get_or s p 0) ((head_ends_at s c p).ends q e))
 
       -- THEOREM: a statement or an expression that n words decide is the same on both sheets
       pub node_agrees : (left : ℕ) (c : Sort) (p : ℕ) → Agrees n (node_form s t line left c p) (node_form s' t line left c p)
       unfolding node_form
       node_agrees zero c p =
           then_agrees n (head_form s c p) (head_form s' c p) (λ q. Err (TooDeep p)) (λ q. Err (TooDeep p)) (head_agrees c p)
-          (λ q e. let h : q ≡ next s p = (head_lands s c p).ends q e in let k : next s p ≤ p + 1 = next_near s p in omega (arith, h, k)) (λ q e. same_agrees n _)
+          (λ q e. let h : q ≡ next s p = (head_ends_at s c p).ends q e in let k : next s p ≤ p + 1 = next_near s p in omega (arith, h, k)) (λ q e. same_agrees n _)
       node_agrees (suc left) c p =
           branch p (head_form s c p) (head_form s' c p)
           (λ x q. then (pick (is_fseek c (payload x)) (Err (Fseek p)) (Ok q)) (λ r. body_form s t line (node_form s t line left) c (payload x) r))
           (λ x q. then (pick (is_fseek c (payload x)) (Err (Fseek p)) (Ok q)) (λ r. body_form s' t line (node_form s' t line left) c (payload x) r))
-          (head_lands s c p) (head_agrees c p) (λ x q h. node_rest_reads left c p q x h)
+          (head_ends_at s c p) (head_agrees c p) (λ x q h. node_rest_reads left c p q x h)
           (λ x q h. then_agrees n (pick (is_fseek c (payload x)) (Err (Fseek p)) (Ok q)) (pick (is_fseek c (payload x)) (Err (Fseek p)) (Ok q))
           (λ r. body_form s t line (node_form s t line left) c (payload x) r) (λ r. body_form s' t line (node_form s' t line left) c (payload x) r) (same_agrees n _)
           (λ r e. forward r _ (body_ends_lem s t line (node_form s t line left) (node_ends s t line left) c (payload x) r))
           (λ r e. body_agrees (node_form s t line left) (node_form s' t line left) (node_ends s t line left) (node_reads left) (node_agrees left) c (payload x) r))
 
   module _ (t : List ℕ) where
-    line_head_lands : (base p : ℕ) → Lands (line_head s t base p) (next s p)
+    line_head_ends_at : (base p : ℕ) → EndsAt (line_head s t base p) (next s p)
     unfolding line_head
-    line_head_lands base p =
-        lands_then _ _ (next s p) _ (word_lands s 16 4096 p) (lands_pick (leb (base + payload_at s p) (length t)) _ _ _ (lands_at (next s p)) (lands_never (BadLength p) (next s p)))
+    line_head_ends_at base p =
+        ends_at_then _ _ (next s p) _ (word_ends_at s 16 4096 p) (ends_at_pick (leb (base + payload_at s p) (length t)) _ _ _ (ok_ends_at (next s p)) (err_ends_at (BadLength p) (next s p)))
 
     line_head_agrees : (base p : ℕ) → Agrees n (line_head s t base p) (line_head s' t base p)
     unfolding line_head
     line_head_agrees base p =
-        tested p (take_word s 16 4096 p) (take_word s' 16 4096 p) (λ x. leb (base + payload x) (length t)) (BadLength p) refl (word_lands s 16 4096 p) (word_agrees 16 4096 p)
+        tested p (take_word s 16 4096 p) (take_word s' 16 4096 p) (λ x. leb (base + payload x) (length t)) (BadLength p) refl (word_ends_at s 16 4096 p) (word_agrees 16 4096 p)
 
     line_head_reads : (base p : ℕ) → next s p ≤ reads (line_head s t base p)
     unfolding line_head
-    line_head_reads base p = tested_reads p (take_word s 16 4096 p) (leb (base + payload_at s p) (length t)) (BadLength p) refl (word_lands s 16 4096 p) (word_reads 16 4096 p)
+    line_head_reads base p = tested_reads p (take_word s 16 4096 p) (leb (base + payload_at s p) (length t)) (BadLength p) refl (word_ends_at s 16 4096 p) (word_reads 16 4096 p)
 
     module _ (line : Line) where
       stmts_ends : (q : ℕ) → Ends s q (list_form s t line (node_form s t line 64 Stmt) q)
@@ -474,7 +474,7 @@ module _ (s s' : List ℕ) (n : ℕ) (al : Alike s s' n) where
         branch p (line_head s t base p) (line_head s' t base p)
         (λ x q. then (label_form s (line_by base x) q) (λ r. list_form s t (line_by base x) (node_form s t (line_by base x) 64 Stmt) r))
         (λ x q. then (label_form s' (line_by base x) q) (λ r. list_form s' t (line_by base x) (node_form s' t (line_by base x) 64 Stmt) r))
-        (line_head_lands base p) (line_head_agrees base p) (λ x q h. line_rest_reads (line_by base x) q) (λ x q h. line_rest_agrees (line_by base x) q)
+        (line_head_ends_at base p) (line_head_agrees base p) (λ x q h. line_rest_reads (line_by base x) q) (λ x q h. line_rest_agrees (line_by base x) q)
 
     line_reads : (base p : ℕ) → next s p ≤ reads (line_form s t base p)
     unfolding line_form
@@ -524,7 +524,7 @@ module _ (s s' : List ℕ) (n : ℕ) (al : Alike s s' n) where
     unfolding sheet_form
     sheet_agrees =
         branch 0 (take_word s 15 16777216 0) (take_word s' 15 16777216 0) (λ x q. lines_form s t (payload x) 0 q) (λ x q. lines_form s' t (payload x) 0 q)
-        (word_lands s 15 16777216 0) (word_agrees 15 16777216 0)
+        (word_ends_at s 15 16777216 0) (word_agrees 15 16777216 0)
         (λ x q h. forward q _ (lines_ends s t (payload x) 0 q (inside_of q h))) (λ x q h. lines_agrees (payload x) 0 q (inside_of q h))
       where
         inside_of : (q : ℕ) → q ≡ next s 0 → q ≤ length s

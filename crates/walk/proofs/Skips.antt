@@ -16,7 +16,8 @@ use Rattle.sheet.specs.declared.form.Times.{Times}
 use Rattle.sheet.specs.declared.form.Times.TheVariants.{Once, Optional, List as Listed, NonEmpty, OptionalList}
 use Rattle.sheet.specs.declared.form.Field.{Field}
 use Rattle.sheet.specs.declared.form.SourceKind.TheVariants.{File}
-use Rattle.sheet.specs.Table.{fields_of, expr_fields, stmt_fields, source_kind}
+use Rattle.sheet.specs.Table.{fields_of, expr_fields, stmt_fields}
+use Rattle.sheet.specs.Kinds.{source_kind}
 use Rattle.sheet.specs.Form.{is_absent}
 use Rattle.sheet.specs.Skip.{skip_source, skip_element, skip_item, skip_pair, skip_repeat, skip_list, skip_times, skip_field, skip_fields, skip_node}
 use Rattle.sheet.proofs.Cases.{source_number}

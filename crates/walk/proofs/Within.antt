@@ -18,7 +18,8 @@ use Rattle.sheet.specs.declared.form.Line.{Line}
 use Rattle.sheet.specs.Check.{Accepted}
 use Rattle.sheet.specs.declared.form.Refusal.TheVariants.{TooLong, Surrogate, WorkTooShort}
 use Rattle.sheet.specs.Table.{is_fseek}
-use Rattle.sheet.specs.Check.{offence_place, answer_place, form_checked, is_too_long, has_surrogate, checked}
+use Rattle.sheet.specs.Check.{offence_place, form_checked, is_too_long, has_surrogate, checked}
+use Rattle.sheet.specs.CheckAnswer.{answer_place}
 use Rattle.sheet.specs.Form.{then, take_word, head_form, fseek_form, body_form, node_form, line_of, line_head, line_form, end_form, lines_form, sheet_form}
 use Rattle.walk.proofs.Steps.{Steps, Ends, here, pick_ends, back_ends, then_ends, from_later, behind_ends, word_ends, label_ends, list_ends, body_ends_lem, node_ends}
 use Rattle.walk.proofs.Cycle.{head_moves}

@@ -6,6 +6,7 @@ ghost use Rattle.std.specs.Prelude.{◌≡◌, ◌+◌, ◌-◌, leb};
 ghost use Rattle.sheet.specs.Form.{line_head, end_form};
 ghost use Rattle.sheet.specs.Skip.{skip_item, skip_pair, skip_list, skip_field, skip_fields, skip_node};
 
+use recorder::number::LINE_SIZE;
 use recorder::word::{behind, payload_at};
 use sheet::form::{ElementKind, Field, Item, Kind, Offence, Sort, SourceKind, Times, Walk};
 use sheet::leaf::{is_absent, take_word};
@@ -23,7 +24,7 @@ fn fits(base: usize, n: usize, len: usize) -> bool
 pub fn line_head(sheet: &[u32], text: &[u16], base: usize, at: usize) -> Walk
     ensures { result ≡ line_head sheet.now text.now base at }
 {
-    let p = take_word(sheet, Kind::Line, 4096, at)?;
+    let p = take_word(sheet, Kind::Line, LINE_SIZE, at)?;
     if fits(base, payload_at(sheet, at) as usize, text.len()) {
         Ok(p)
     } else {

@@ -1,4 +1,3 @@
-use native.Mathlib.Omega.{arith}
 use Rattle.closing.proofs.ClosingLaws.{unit_pow}
 use Rattle.closing.proofs.closing.unit_of.Goals as goal
 

@@ -2,8 +2,8 @@ use Rattle.std.proofs.Common.{◌≡◌, ◌+◌, ◌-◌, ◌*◌}
 use Rattle.recorder.specs.Mem.{mem_r}
 use Rattle.sheet.specs.declared.form.Sort.TheVariants.{Expr as exprSort}
 use Rattle.sheet.specs.Skip.{skip_node, skip_repeat}
-use Rattle.sheet.specs.Tree.{args_at}
-use Rattle.rules.specs.Tables.{wanted_by}
+use Rattle.sheet.specs.Args.{args_at}
+use Rattle.rules.specs.Wants.{wanted_by}
 use Rattle.rules.specs.Expr.{compile_args}
 use Rattle.recorder.specs.CodeGen.{mem_of, SameLoans}
 use Rattle.expressions.proofs.expr.+expr_cycle.Given as goal

@@ -1,6 +1,6 @@
 use Rattle.std.proofs.Common.{◌≡◌, ◌-◌, ℕ, List}
 use Rattle.recorder.specs.Mem.{mem_r}
-use Rattle.sheet.specs.Tree.{args_at}
+use Rattle.sheet.specs.Args.{args_at}
 use Rattle.rules.specs.Stmt.{surplus_notes}
 use Rattle.recorder.specs.CodeGen.{mem_of, SameLoans}
 use Rattle.expressions.proofs.surplus.surplus_notes.Given as goal

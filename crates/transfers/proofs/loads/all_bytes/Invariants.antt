@@ -1,6 +1,6 @@
 use Rattle.std.proofs.Common.{◌≡◌, ◌-◌}
 use Rattle.recorder.specs.Mem.{mem_r}
-use Rattle.sheet.specs.Tree.{args_at}
+use Rattle.sheet.specs.Args.{args_at}
 use Rattle.rules.specs.Stmt.{all_bytes}
 use Rattle.transfers.proofs.loads.all_bytes.Given as goal
 

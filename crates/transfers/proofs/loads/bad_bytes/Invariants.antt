@@ -1,7 +1,7 @@
 use Rattle.recorder.specs.Mem.{mem_r}
 use Rattle.sheet.specs.declared.form.Sort.TheVariants.{Expr as exprSort}
 use Rattle.sheet.specs.Skip.{skip_node}
-use Rattle.sheet.specs.Tree.{args_at}
+use Rattle.sheet.specs.Args.{args_at}
 use Rattle.rules.specs.Stmt.{bad_bytes}
 use Rattle.expressions.proofs.Lists.{Turns}
 use Rattle.transfers.proofs.loads.bad_bytes.Given as goal

@@ -1,6 +1,6 @@
 use Rattle.std.proofs.Common.{◌≡◌, ◌-◌}
 use Rattle.recorder.specs.Mem.{mem_r}
-use Rattle.sheet.specs.Tree.{args_at}
+use Rattle.sheet.specs.Args.{args_at}
 use Rattle.rules.specs.Stmt.{load_bytes}
 use Rattle.recorder.specs.CodeGen.{mem_of, SameLoans}
 use Rattle.transfers.proofs.loads.load_bytes.Given as goal

@@ -1,5 +1,5 @@
 use Rattle.std.proofs.Common.{ap}
-use Rattle.recorder.specs.Word.{plus_one}
+use Rattle.recorder.specs.Optional.{plus_one}
 use Rattle.labels.proofs.MarkLaws.{datum_start_lem, datum_link, datum_end}
 use Rattle.labels.proofs.chains.Chains.find_datum.Goals as goal
 

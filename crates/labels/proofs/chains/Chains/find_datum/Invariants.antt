@@ -1,6 +1,6 @@
 use Rattle.std.proofs.Common.{List}
 use Rattle.recorder.specs.Marks.{Mark, data_of}
-use Rattle.recorder.specs.Word.{plus_one}
+use Rattle.recorder.specs.Optional.{plus_one}
 use Rattle.labels.specs.Indexed.{Indexed}
 use Rattle.labels.proofs.MarkLaws.{start_search}
 use Rattle.labels.proofs.MarkSearch.{data_or, Seeking}

@@ -1,5 +1,5 @@
 use Rattle.std.proofs.Common.{ap}
-use Rattle.recorder.specs.Word.{plus_one}
+use Rattle.recorder.specs.Optional.{plus_one}
 use Rattle.labels.proofs.MarkLaws.{target_start, target_link, target_here, target_none}
 use Rattle.labels.proofs.chains.Chains.find_label.Goals as goal
 

@@ -1,6 +1,6 @@
 use Rattle.std.proofs.Common.{List}
 use Rattle.recorder.specs.Marks.{Mark, addr_of}
-use Rattle.recorder.specs.Word.{plus_one}
+use Rattle.recorder.specs.Optional.{plus_one}
 use Rattle.labels.specs.Indexed.{Indexed}
 use Rattle.labels.proofs.MarkSearch.{addrs, Seeking}
 use Rattle.labels.proofs.chains.Chains.find_label.Given as goal

@@ -1,7 +1,8 @@
 use Rattle.std.proofs.Common.{◌∙◌, sym, ap, List, get_or, arith}
 use Rattle.std.proofs.Math.ListN.{get_or-map}
 use Rattle.rules.specs.declared.tables.Sig.TheVariants.{RealOfReal}
-use Rattle.rules.specs.Tables.{Signature, signature_for, signature_of, real_of_real}
+use Rattle.rules.specs.Tables.{Signature, signature_of, real_of_real}
+use Rattle.rules.specs.Wants.{signature_for}
 use Rattle.rules.proofs.tables.Sig.of_function.Goals as goal
 
 pub returns : goal.returns

@@ -1,0 +1,9 @@
+pub mod Units
+pub mod Reading
+pub mod Recorders
+pub mod Exprs
+pub mod Stmts
+pub mod Program
+pub mod Agreed
+pub mod Accepted
+pub mod Before
