@@ -823,20 +823,7 @@ pub fn readings() -> Vec<Reading> {
     "0 0 1 0 0 0\n1 0 5 1 0 0\n2 0 2 65 1 0\n3 0 1 0 0 0\n4 0 2 17 0 0\nnote 4 0 2 4\n",
     None,
   );
-  add(
-    "delay to .25",
-    delay(false, false, (".25", value(1, 2))),
-    "0 0 1 0 0 0\n1 0 3 129 2147483648 0\n2 0 2 65 1 0\n3 0 1 0 0 0\n4 0 2 17 0 0\n",
-    None,
-  );
-  // 2^32 - 1 halves, up to 2^31; the largest number stays.
-  let halves = ("2147483647.5", value((1 << 32) - 1, 1));
-  add(
-    "delay to 2^31 - 1/2",
-    delay(false, false, halves),
-    "0 0 1 0 0 0\n1 0 3 160 2147483648 0\n2 0 2 65 1 0\n3 0 1 0 0 0\n4 0 2 17 0 0\n",
-    None,
-  );
+  // The largest number stays.
   let largest = ("1.7E38", Value { e: 255, m: u32::MAX });
   add(
     "delay to the largest",

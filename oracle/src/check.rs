@@ -66,7 +66,7 @@ impl Counts {
     compiler::compile_prog(text, &mut prog, &mut both);
 
     // The recorder makes the same by itself.
-    let alone = run::compile(&input.words, &input.units);
+    let alone = run::compile_as_rust(&input.words, &input.units);
     if alone.recorder.records != both.recorder.records
       || alone.recorder.entries != both.recorder.entries
     {

@@ -4,6 +4,7 @@
 use crate::generate::{self, Sort};
 use crate::jobs;
 use crate::library::{self, Lent};
+use crate::points::Changes;
 use crate::replay;
 use crate::run::{self, Answer, Compiled, Input};
 use crate::selftest::guarded;
@@ -35,6 +36,7 @@ struct Totals {
   accepted: AtomicU64,
   calls: AtomicU64,
   failed: AtomicU64,
+  changes: Mutex<Changes>,
 }
 
 /// Compares generated inputs as they are.
@@ -88,7 +90,11 @@ pub fn recheck(
       writeln!(out, "input {index}: {what}")?;
     }
   }
-  writeln!(out, "recheck: {all} inputs, {failed} with differences")?;
+  let changes = totals.changes.into_inner().unwrap();
+  writeln!(
+    out,
+    "recheck: {all} inputs, {failed} with differences but the declared ones: {changes}"
+  )?;
   out.flush()?;
   Ok(failed == 0)
 }
@@ -129,9 +135,10 @@ fn in_parallel(
   let failed = number(&totals.failed);
   writeln!(
     out,
-    "{what}: seed {seed}, {count} inputs, {} calls, {} accepted, {failed} inputs with differences",
+    "{what}: seed {seed}, {count} inputs, {} calls, {} accepted, {failed} inputs with differences but the declared ones: {}",
     number(&totals.calls),
-    number(&totals.accepted)
+    number(&totals.accepted),
+    totals.changes.into_inner().unwrap()
   )?;
   if let Some(Failed { index, input, what }) = smallest.into_inner().unwrap() {
     replay::write_input(&mut fs::File::create(plan.out)?, &input)?;
@@ -163,6 +170,7 @@ fn one(input: &Input, lent: &mut Lent, totals: &Totals) -> Result<(), String> {
     }
     Answer::Accepted(made) => {
       totals.accepted.fetch_add(1, Ordering::Relaxed);
+      totals.changes.lock().unwrap().add(made.changes);
       let [records, notes, entries] = made.counts().map(|n| n as u32);
       same(lent, [0, 0, records, notes, entries], &Wanted::new(&made))
     }

@@ -33,6 +33,7 @@ mod maker;
 mod mutants;
 mod pairs;
 mod parts;
+mod points;
 mod progress;
 mod recorder;
 mod replay;

@@ -267,13 +267,20 @@ pub fn pairs() -> Vec<Pair> {
   })]);
   add("datum of one quote", input, END, Some(vec![[51, 0, 6, 0, 1]]));
 
-  // Delay ends 12, 12.5: 12, 13.
+  // Delay ends 12, 12.5: 12, 13. And what document 02 says of others: half a
+  // step goes up, less is none.
   let twelve = ("12", value(12, 0));
   let name = || Some(vec![[50, 0, 4, 1, 0]]);
-  for (end, m) in [(twelve, 12u32), (("12.5", value(25, 1)), 13)] {
+  for (end, e, m) in [
+    (twelve, 132, 12u32 << 28),
+    (("12.5", value(25, 1)), 132, 13 << 28),
+    (("12.25", value(49, 2)), 132, 12 << 28),
+    ((".25", value(1, 2)), 0, 0),
+    ((".5", value(1, 1)), 129, 1 << 31),
+    (("2147483647.5", value(u32::MAX.into(), 1)), 160, 1 << 31),
+  ] {
     let listing = format!(
-      "0 0 1 0 0 0\n1 0 3 132 {} 0\n2 0 2 65 1 0\n3 0 1 0 0 0\n4 0 2 17 0 0\n",
-      m << 28
+      "0 0 1 0 0 0\n1 0 3 {e} {m} 0\n2 0 2 65 1 0\n3 0 1 0 0 0\n4 0 2 17 0 0\n"
     );
     let input = delay(Some(0), end, false);
     add(&format!("delay to {}", end.0), input, &listing, name());

@@ -56,6 +56,9 @@ pub struct Recorder {
   /// The upper-case spelling of each symbol.
   pub names: Vec<String>,
   symbols: HashMap<String, u32>,
+  /// Where the number stands that is the end of a converted delay, and its
+  /// e and m before they were rounded up.
+  pub delay_ends: Vec<(usize, [u32; 2])>,
   /// Entries of each kind so far, from NAME on.
   counts: [u32; 3],
   line: usize,
@@ -434,6 +437,7 @@ impl Recorder {
       let end = &mut self.records[start + 1];
       match end {
         Record { call: 3, args: [e, m, _], .. } if *e != 0 => {
+          self.delay_ends.push((start + 1, [*e, *m]));
           (*e, *m) = round_up(*e, *m);
         }
         Record { call: 5, .. } => {}

@@ -5,6 +5,7 @@ use crate::ast::Program;
 use crate::compiler;
 use crate::diagnostic::Diagnostic;
 use crate::form::{self, Refusal};
+use crate::points::{self, Changes};
 use crate::recorder::Recorder;
 use crate::sheet;
 use crate::standins::{self, Utf16Str};
@@ -43,8 +44,9 @@ impl Note {
 pub struct Compiled {
   pub recorder: Recorder,
   pub notes: Vec<Note>,
-  /// How often the declared difference was met.
+  /// How often the difference that document 01 declares was met.
   pub one_quotes: usize,
+  pub changes: Changes,
 }
 
 impl Compiled {
@@ -79,15 +81,24 @@ pub fn answer(input: &Input) -> Answer {
   }
 }
 
-/// Compiles a sheet that the form takes.
+/// Compiles a sheet that the form takes: what the Rust says, with document
+/// 02's points.
 pub fn compile(words: &[u32], units: &[u16]) -> Compiled {
+  let mut made = compile_as_rust(words, units);
+  points::apply(&mut made);
+  made
+}
+
+/// What the Rust says, by document 01's recorder.
+pub fn compile_as_rust(words: &[u32], units: &[u16]) -> Compiled {
   let mut prog = sheet::decode(words).expect("the form took the sheet");
   let text = Utf16Str::from_units(units);
   standins::begin(text);
   let mut recorder = Recorder::new();
   compiler::compile_prog(text, &mut prog, &mut recorder);
   let notes = notes(&prog);
-  Compiled { recorder, notes, one_quotes: standins::one_quote_data() }
+  let one_quotes = standins::one_quote_data();
+  Compiled { recorder, notes, one_quotes, changes: Changes::default() }
 }
 
 /// The notes in order of making; the Rust keeps them by line.

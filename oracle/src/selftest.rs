@@ -11,6 +11,7 @@ use crate::labels;
 use crate::maker::{decimal, value};
 use crate::mutants;
 use crate::pairs;
+use crate::points::{self, Changes};
 use crate::progress::Progress;
 use crate::recorder::{self, Recorder};
 use crate::replay;
@@ -37,7 +38,7 @@ pub fn selftest(out: &mut impl Write) -> io::Result<bool> {
     ("refusals and places worked out by hand", form_cases),
     ("listings worked out by hand", readings),
     ("a quoted datum of one quote panics in the Rust", one_quote_panics),
-    ("rounding up", rounding),
+    ("rounding up and to the nearest", rounding),
     ("decimal texts and their values", decimals),
     ("sheets there and back", round_trips),
     ("form and decoder on damaged sheets", damaged),
@@ -296,6 +297,10 @@ fn rounding() -> Result<String, String> {
     let num = f64::from(standins::Mbf5 { e, m });
     let up = standins::Mbf5::try_from(num.ceil()).map_err(|_| "too large")?;
     same(recorder::round_up(e, m), (up.e, up.m))?;
+    // Exact: a number has 32 bits, and from 2^32 on it is whole.
+    let nearest = standins::Mbf5::try_from((num + 0.5).floor());
+    let nearest = nearest.map_err(|_| "too large")?;
+    same(points::nearest(e, m), (nearest.e, nearest.m))?;
   }
   Ok(String::new())
 }
@@ -651,6 +656,7 @@ struct Seen {
   inputs: usize,
   accepted: usize,
   one_quotes: usize,
+  changes: Changes,
   words: usize,
   largest: usize,
   refusals: BTreeMap<u32, usize>,
@@ -686,6 +692,7 @@ impl Seen {
     };
     self.accepted += 1;
     self.one_quotes += made.one_quotes;
+    self.changes.add(made.changes);
     compare::bounds(input.words.len(), made.counts())?;
     names_spelled(&made.recorder, &input.units)?;
     places_known(&made.recorder, input)?;
@@ -729,6 +736,9 @@ impl Seen {
     want("statement", &self.stmts, (0..72).filter(|&n| n != 69).collect());
     want("expression", &self.exprs, (0..10).collect());
     want("entry", &self.entries, (50..=52).collect());
+    if self.changes.delay_ends == 0 {
+      gaps.push("an end of a delay that is not rounded up".into());
+    }
     gaps
   }
 }
@@ -754,6 +764,7 @@ impl Display for Seen {
     writeln!(f, "expressions {:?}", self.exprs)?;
     writeln!(f, "entries {:?}", self.entries)?;
     writeln!(f, "not reached: {:?}", self.gaps())?;
+    writeln!(f, "document 02: {}", self.changes)?;
     write!(f, "CodeGen: {}", self.check)
   }
 }

@@ -8,7 +8,7 @@ use Rattle.recorder.specs.Recorder.{Look}
 use Rattle.recorder.specs.Calls.{Awaited, no_label, for_label, label_word, range_number, unpack, number_call, goto_call, gosub_call, while_call, def_call, restore_call, error_note, warning_note}
 use Rattle.recorder.specs.Ideal.{Rec, rec, no_rec, Note, note_of, Ideal, ideal, Search, missing, found, find_name, symbol_in, symbol_of, change, with_a, with_c, settled, unlabelled, look_of}
 use Rattle.recorder.specs.Marks.{Mark}
-use Rattle.recorder.specs.Closing.{is_while, rec_at, end_from, end_at, close_whiles, open_note, open_notes, no_op, sleep, round_up, whole_end, delayed, stepped_delayed, is_delay, is_stepped_delay, delay_from, delays, end_rec, clean_up, rules_r}
+use Rattle.recorder.specs.Closing.{is_while, rec_at, end_from, end_at, close_whiles, open_note, open_notes, no_op, sleep, rounded, whole_end, delayed, stepped_delayed, is_delay, is_stepped_delay, delay_from, delays, end_rec, clean_up, rules_r}
 use Rattle.sheet.specs.Check.{Accepted, checked}
 use Rattle.sheet.specs.Tree.{line_at, behind_line, program_at}
 use Rattle.sheet.proofs.Lists.{items_length}
@@ -207,7 +207,7 @@ module _ (m : ℕ) where
   whole_done : (r : Rec) → RecDone r → RecDone (whole_end r)
   whole_done r h = go (eqb r.call number_call)
     where
-      go : (b : Bool) → RecDone (pick b (rec number_call r.line r.range (round_up r.a r.b).e (round_up r.a r.b).m 0) r)
+      go : (b : Bool) → RecDone (pick b (rec number_call r.line r.range (rounded r.a r.b).e (rounded r.a r.b).m 0) r)
       go true = (h.0, λ w. no_one w)
       go false = h
 

@@ -1,4 +1,5 @@
--- What a case is: a sheet, a text and the lengths of the lent buffers, and what the Rust says of them.
+-- What a case is: a sheet, a text and the lengths of the lent buffers, and what the Rust says of them, document 02's points put in
+-- (oracle/src/points.rs).
 use Rattle.std.specs.Prelude.{ℕ, List, [], replicate}
 use Rattle.recorder.specs.Layout.{fill}
 use Rattle.rules.specs.Outcome.{Answer, Outcome, Lengths, outcome}

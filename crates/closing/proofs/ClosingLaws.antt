@@ -10,9 +10,9 @@ use native.Mathlib.Nat.{pow-le-pow_right, one-le-pow, div-mul-le_self}
 use native.Mathlib.Omega.{arith}
 use Rattle.recorder.specs.Word.{pick, both, either, kind_at, word_of}
 use Rattle.recorder.specs.Ideal.{Rec}
-use Rattle.recorder.specs.Closing.{is_while, is_wend, is_end, up_to, round_up}
+use Rattle.recorder.specs.Closing.{is_while, is_wend, is_end, nearest, rounded}
 use Rattle.closing.specs.Parts.{passed_of}
-use Rattle.recorder.specs.Mem.{Mem, mem, put_note, link_at, rec_of, set_b, at_rec, while_list, while_top, Passed, passed, open_from, unit_of, sigil_of, unlink_at, unlink_from}
+use Rattle.recorder.specs.Mem.{Mem, mem, put_note, link_at, rec_of, set_b, at_rec, while_list, while_top, Passed, passed, open_from, sigil_of, unlink_at, unlink_from}
 use Rattle.recorder.proofs.Bools.{true_not_false, both_false}
 
 -- tests in a row
@@ -71,42 +71,32 @@ open_end m b t k end P h i e =
     rw (← i, ← p) refl
 
 -- powers of two
-pub pow_small : (k : ℕ) → k ≤ 31 → (0 < 2 ^ k) × (2 ^ k ≤ 2147483648)
-pow_small k h = (one-le-pow k 2 (omega arith), pow-le-pow_right {n = 2} (omega arith) h)
+pub pow_small : (u k : ℕ) → u ≡ 2 ^ k → k ≤ 32 → (u ≡ 2 ^ k) × (0 < u) × (u ≤ 4294967296)
+pow_small u k e h = (e, rw e (one-le-pow k 2 (omega arith)), rw e (pow-le-pow_right {n = 2} (omega arith) h))
 
-pub unit_pow : (u e : ℕ) → u ≡ 2 ^ (160 - e) → 129 ≤ e → (u ≡ unit_of e) × (0 < u) × (u ≤ 2147483648)
-unfolding unit_of
-unit_pow u e w h = (rw (le-ltb e 129 h) w, rw w (pow_small (160 - e) (omega arith)).0, rw w (pow_small (160 - e) (omega arith)).1)
+-- the delay's end rounded: m has at most 32 bits, and with half a unit at most 33
+pub nearest_bound : (m u : ℕ) → 0 < u → u ≤ 4294967296 → m < 4294967296 → nearest m u ≤ 6442450943
+nearest_bound m u h i j = omega (arith, div-mul-le_self (m + u / 2) u)
 
--- rounding up
-pub up_bound : (m u : ℕ) → 0 < u → u ≤ 2147483648 → m < 4294967296 → (m + u - 1) / u * u ≤ 6442450943
-up_bound m u h i j = omega (arith, div-mul-le_self (m + u - 1) u)
+pub rounded_low : (e m : ℕ) → e < 128 → (0 ≡ (rounded e m).e) × (0 ≡ (rounded e m).m)
+unfolding rounded
+rounded_low e m h = (rw (lt-ltb e 128 h), rw (lt-ltb e 128 h))
 
-pub round_low : (e m : ℕ) → e < 129 → (129 ≡ (round_up e m).e) × (2147483648 ≡ (round_up e m).m)
-unfolding round_up
-round_low e m h = (rw (lt-ltb e 129 h), rw (lt-ltb e 129 h))
+pub rounded_whole : (e m : ℕ) → 128 ≤ e → 160 ≤ e → (e ≡ (rounded e m).e) × (m ≡ (rounded e m).m)
+unfolding rounded
+rounded_whole e m h i = (rw (le-ltb e 128 h, le-ltb e 160 i), rw (le-ltb e 128 h, le-ltb e 160 i))
 
-pub round_whole : (e m : ℕ) → 129 ≤ e → 160 ≤ e → (e ≡ (round_up e m).e) × (m ≡ (round_up e m).m)
-unfolding round_up
-round_whole e m h i = (rw (le-ltb e 129 h, le-ltb e 160 i), rw (le-ltb e 129 h, le-ltb e 160 i))
+pub rounded_same : (e m u : ℕ) → 128 ≤ e → e < 160 → u ≡ 2 ^ (160 - e) → nearest m u < 4294967296 → (e ≡ (rounded e m).e) × (nearest m u ≡ (rounded e m).m)
+unfolding rounded
+rounded_same e m u h i z l =
+    let t : ltb (nearest m (2 ^ (160 - e))) 4294967296 ≡ true = lt-ltb (nearest m (2 ^ (160 - e))) 4294967296 (rw z at l) in
+    (rw (le-ltb e 128 h, lt-ltb e 160 i, t), rw (le-ltb e 128 h, lt-ltb e 160 i, t, z))
 
-unit_is : (e u : ℕ) → 129 ≤ e → u ≡ unit_of e → u ≡ 2 ^ (160 - e)
-unfolding unit_of
-unit_is e u h g = rw (le-ltb e 129 h) at g
-
-pub round_same : (e m u : ℕ) → 129 ≤ e → e < 160 → u ≡ unit_of e → up_to m u < 4294967296 → (e ≡ (round_up e m).e) × (up_to m u ≡ (round_up e m).m)
-unfolding round_up
-round_same e m u h i g l =
-    let z = unit_is e u h g in
-    let t : ltb (up_to m (2 ^ (160 - e))) 4294967296 ≡ true = lt-ltb (up_to m (2 ^ (160 - e))) 4294967296 (rw z at l) in
-    (rw (le-ltb e 129 h, lt-ltb e 160 i, t), rw (le-ltb e 129 h, lt-ltb e 160 i, t, z))
-
-pub round_next : (e m u : ℕ) → 129 ≤ e → e < 160 → u ≡ unit_of e → 4294967296 ≤ up_to m u → (e + 1 ≡ (round_up e m).e) × (up_to m u / 2 ≡ (round_up e m).m)
-unfolding round_up
-round_next e m u h i g l =
-    let z = unit_is e u h g in
-    let t : ltb (up_to m (2 ^ (160 - e))) 4294967296 ≡ false = le-ltb (up_to m (2 ^ (160 - e))) 4294967296 (rw z at l) in
-    (rw (le-ltb e 129 h, lt-ltb e 160 i, t), rw (le-ltb e 129 h, lt-ltb e 160 i, t, z))
+pub rounded_next : (e m u : ℕ) → 128 ≤ e → e < 160 → u ≡ 2 ^ (160 - e) → 4294967296 ≤ nearest m u → (e + 1 ≡ (rounded e m).e) × (nearest m u / 2 ≡ (rounded e m).m)
+unfolding rounded
+rounded_next e m u h i z l =
+    let t : ltb (nearest m (2 ^ (160 - e))) 4294967296 ≡ false = le-ltb (nearest m (2 ^ (160 - e))) 4294967296 (rw z at l) in
+    (rw (le-ltb e 128 h, lt-ltb e 160 i, t), rw (le-ltb e 128 h, lt-ltb e 160 i, t, z))
 
 -- a number's or another record's test
 pub end_other : (r : Rec) (c : ℕ) → c ≡ r.call → (c ≡ 3 → ⊥) → eqb c 5 ≡ is_end r

@@ -1,2 +1,3 @@
 pub mod ClosingLaws
+pub mod Nearest
 pub mod OnePass

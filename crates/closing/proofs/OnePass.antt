@@ -15,7 +15,7 @@ use Rattle.recorder.specs.declared.codegen.State.{State}
 use Rattle.recorder.specs.Numbers.{unknown}
 use Rattle.recorder.specs.Word.{pick, both, either, word_of}
 use Rattle.recorder.specs.Ideal.{Rec, no_range}
-use Rattle.recorder.specs.Closing.{is_while, is_wend, is_start, is_one, is_end, is_for, is_next_of, round_up}
+use Rattle.recorder.specs.Closing.{is_while, is_wend, is_start, is_one, is_end, is_for, is_next_of, rounded}
 use Rattle.recorder.specs.Mem.{Mem, mem, put, known, unlink_from, unlinked, clean_up, put_rec, put_st, note_list, note_st, part, rec_of, set_b, at_rec, link_at, while_list, while_top, whiles_from, top_from, Passed, passed, open_step, open_from, present, patch_whiles, rewrite, no_op_at, whole_at, delay_at, stepped_at, delayed_at, stepped_delayed_at, delay_list, delays_from, convert_delays, clean_up_all}
 use Rattle.recorder.proofs.Words.{head_kind}
 use Rattle.recorder.proofs.Bools.{true_not_false, both_left, both_right}
@@ -192,7 +192,7 @@ keeps_whole l j = go (eqb (rec_of l j).call 3) refl
         let t : (rec_of l j).call ≡ 3 = eqb-true (rec_of l j).call 3 x in
         let h : is_while (rec_of l j) ≡ false = rw t in
         let g : is_wend (rec_of l j) ≡ false = rw t in
-        keeps_as (keeps_rewrite l j 3 (round_up (rec_of l j).a (rec_of l j).b).e (round_up (rec_of l j).a (rec_of l j).b).m 0 h g refl refl)
+        keeps_as (keeps_rewrite l j 3 (rounded (rec_of l j).a (rec_of l j).b).e (rounded (rec_of l j).a (rec_of l j).b).m 0 h g refl refl)
         (rw x)
         (λ k v w. let n = differ l k j w h in rw (call_same k v, x, b_elsewhere l k v (5 * j + 2) (λ z. omega arith), b_elsewhere l k v (5 * j + 3) (λ z. n (omega arith))))
     go false x = keeps_as (keeps_none l) (rw x) (λ k v w. rw (call_same k v, x))

@@ -1,14 +1,15 @@
 // Closing up what is the recorder's: the WHILEs, the delays, End.
-ghost use Rattle.std.specs.Prelude.{◌≡◌, ◌+◌, ◌*◌, ◌/◌, ◌≤◌, ◌<◌, min, get_or, eqb, ltb, length, Some, None};
+ghost use Rattle.std.specs.Prelude.{◌≡◌, ◌+◌, ◌*◌, ◌-◌, ◌/◌, ◌^◌, ◌≤◌, ◌<◌, min, get_or, eqb, ltb, length, Some, None};
 ghost use Rattle.recorder.specs.Calls.{while_without_wend, error_note};
 ghost use Rattle.recorder.specs.CallNumbers.{numbers_of};
+ghost use Rattle.recorder.specs.Numbers.{word_size, bias, number_half};
 ghost use Rattle.recorder.specs.Word.{pick, both, word_of, flag_of};
-ghost use Rattle.recorder.specs.Closing.{is_one, is_start, is_end, is_for, is_next_of, round_up};
+ghost use Rattle.recorder.specs.Closing.{is_one, is_start, is_end, is_for, is_next_of, rounded};
 ghost use Rattle.recorder.specs.Layout.{rec_size, most_records};
 ghost use Rattle.recorder.specs.Offsets.{range_word_at};
 ghost use Rattle.recorder.specs.CodeGen.{mem_of, SameLoans};
 ghost use Rattle.closing.specs.Parts.{passed_of, with_passed};
-ghost use Rattle.recorder.specs.Mem.{put_note, rec_of, set_b, at_rec, while_list, while_top, whiles_from, top_from, open_from, set_head, rewrite, unit_of, whole_at, delay_at, stepped_at, delayed_at, stepped_delayed_at, delay_list, delays_from, clean_up, sigil_of, unlink_at, unlink_from, unlinked};
+ghost use Rattle.recorder.specs.Mem.{put_note, rec_of, set_b, at_rec, while_list, while_top, whiles_from, top_from, open_from, set_head, rewrite, whole_at, delay_at, stepped_at, delayed_at, stepped_delayed_at, delay_list, delays_from, clean_up, sigil_of, unlink_at, unlink_from, unlinked};
 
 use recorder::call::{Call, Class, FOR, NEXT, NUMBER, Numbers, OP, UNKNOWN, VAR, WHILE};
 use recorder::codegen::{
@@ -16,7 +17,7 @@ use recorder::codegen::{
     most_records, set_at, start_of,
 };
 use recorder::label::Addr;
-use recorder::number::{BIAS, LEAST_MANTISSA, ONE, WORD_SIZE};
+use recorder::number::{BIAS, LEAST_MANTISSA, ONE, ONE_HALF, WORD_SIZE};
 use recorder::unit::{DOLLAR, PERCENT};
 use recorder::word::{Range, kind_at, word_at, word_of};
 
@@ -177,38 +178,36 @@ fn rewrite_at(list: &mut [u32], k: u32, call: Call)
     }
 }
 
-// 2^(160−e).
+// 2^(160−e), a whole step in units of the mantissa.
 fn unit_of(e: u32) -> u64
-    requires { (129 ≤ e) × (e < 160) }
-    ensures { (result ≡ unit_of e) × (0 < result) × (result ≤ 2147483648) }
+    requires { (number_half.e ≤ e) × (e < bias) }
+    ensures { (result ≡ 2 ^ (bias - e)) × (0 < result) × (result ≤ word_size) }
 {
     2_u64.pow(BIAS - e)
 }
 
 impl Number {
-    // "a number end is rounded up to a whole number"
-    pub fn round_up(self) -> Number
-        ensures { (result.e ≡ (round_up self.e self.m).e) × (result.m ≡ (round_up self.e self.m).m) }
+    // "rounds delay counts to the nearest whole step, an exact half going up". In 64 bits: m and half a unit may be more than a word
+    // holds.
+    pub fn rounded(self) -> Number
+        ensures { (result.e ≡ (rounded self.e self.m).e) × (result.m ≡ (rounded self.e self.m).m) }
     {
         let e = self.e;
         let m = self.m;
-        if e < ONE {
-            return Number {
-                e: ONE,
-                m: LEAST_MANTISSA,
-            };
+        if e < ONE_HALF {
+            return Number { e: 0, m: 0 };
         }
         if BIAS <= e {
             return Number { e, m };
         }
         let unit = unit_of(e);
-        let up = (m as u64 + unit - 1) / unit * unit;
-        if up < WORD_SIZE {
-            return Number { e, m: up as u32 };
+        let whole = (m as u64 + unit / 2) / unit * unit;
+        if whole < WORD_SIZE {
+            return Number { e, m: whole as u32 };
         }
         Number {
             e: e + 1,
-            m: (up / 2) as u32,
+            m: (whole / 2) as u32,
         }
     }
 }
@@ -222,7 +221,7 @@ fn whole_at(list: &mut [u32], k: u32)
             e: a_of(list, k),
             m: b_of(list, k),
         };
-        let v = number.round_up();
+        let v = number.rounded();
         rewrite_at(list, k, Call::Number(v.e, v.m));
     }
 }

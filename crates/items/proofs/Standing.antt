@@ -4,25 +4,26 @@ use mathlib.Core.Bool.{Bool, true, false}
 use mathlib.Core.List.{List}
 use Prim.Native.Nat.{ℕ, suc, ◌+◌, ◌*◌, ◌/◌, ◌%◌, ◌≤◌, ◌<◌}
 use native.Mathlib.Omega.{arith}
-use borrow.Author.Tests.{leb-true, ltb-true, ltb-false}
-use lib.Dec.{leb, ltb}
+use borrow.Author.Tests.{leb-true, ltb-true, ltb-false, eqb-true, eqb-false}
+use lib.Dec.{leb, ltb, eqb}
 use lib.ListN.{length, get_or, get_or-eq_default}
-use Rattle.recorder.specs.Word.{pick, kind_at, payload, payload_at, next, range_of, range_at, label_at}
+use Rattle.recorder.specs.Word.{pick, either, kind_at, payload, payload_at, next, range_of, range_at, label_at}
 use Rattle.recorder.specs.declared.word.Range.{Range}
+use Rattle.recorder.specs.Numbers.{zero_number, other_number}
 use Rattle.recorder.proofs.Bools.{both_left, both_right}
 use Rattle.sheet.specs.declared.form.Line.{Line}
 use Rattle.sheet.specs.declared.form.Offence.{Offence}
-use Rattle.sheet.specs.declared.form.Offence.TheVariants.{BadRange}
+use Rattle.sheet.specs.declared.form.Offence.TheVariants.{BadWord, BadRange}
 use Rattle.std.specs.Prelude.{Ok, Err}
 use Rattle.sheet.specs.Check.{Accepted, checked}
 use Rattle.sheet.specs.Form
 use Rattle.sheet.specs.Tree
 use Rattle.sheet.proofs.Walks.{pick_behind}
-use Rattle.walk.proofs.Accepted.{word_ends_at, range_ends_at}
+use Rattle.walk.proofs.Accepted.{word_ends_at, range_ends_at, high_ends_at}
 use Rattle.rules.proofs.SheetWalk.{two_parts}
 use Rattle.bounds.specs.Uncut.{UncutLine}
 use Rattle.bounds.proofs.Uncut.{word_taken, literal_uncut}
-use Rattle.items.specs.Standing.{RangeStands, NameStands, TextStands, DatumStands, Stands, LabelStands, Standing, Packed, of_literals, of_labels, of_ranges, Literals, Labels, Ranges}
+use Rattle.items.specs.Standing.{RangeStands, NameStands, TextStands, DatumStands, Stands, LabelStands, IsLiteral, number_literal, too_large_literal, Standing, Packed, of_literals, of_labels, of_ranges, Literals, Labels, Ranges}
 use Rattle.items.specs.Items.{Items}
 use Rattle.items.specs.Carries.{Carries}
 use Rattle.items.proofs.Carried.{carried}
@@ -61,6 +62,45 @@ module _ (s : List ℕ) where
   label_stands p q e =
       let h = word_taken s 3 65536 p q e in
       record { at = p; inside = word_inside 2 p h.0; kind = h.0; same = omega (arith, h.1); short = omega arith }
+
+  -- the halves that may stand behind an exponent make a number's mantissa
+  low_is : (b : Bool) → either b false ≡ true → b ≡ true
+  low_is true e = refl
+  low_is false e = e
+
+  halves_make : (e h l m : ℕ) → e < 257 → h < 65536 → l < 65536 → m ≡ h * 65536 + l → Form.high_fits e h ≡ true → Form.low_fits e l ≡ true → IsLiteral e m
+  halves_make e h l m i j k x a b = go (eqb e 0) (eqb e 256) refl refl
+    where
+      none : h ≡ 0 → l ≡ 0 → m ≡ 0
+      none c d = omega (arith, x, c, d)
+
+      go : (c d : Bool) → eqb e 0 ≡ c → eqb e 256 ≡ d → IsLiteral e m
+      go true d f g =
+          let z : e ≡ 0 = eqb-true e 0 f in
+          let y : m ≡ 0 = none (eqb-true h 0 (rw f at a)) (eqb-true l 0 (low_is (eqb l 0) (rw f at b))) in
+          number_literal (rw (z, y) zero_number)
+      go false true f g =
+          let z : e ≡ 256 = eqb-true e 256 g in
+          let y : m ≡ 0 = none (eqb-true h 0 (rw (f, g) at a)) (eqb-true l 0 (low_is (eqb l 0) (rw (f, g) at b))) in
+          rw (z, y) too_large_literal
+      go false false f g =
+          let c : 32768 ≤ h = leb-true 32768 h (rw (f, g) at a) in
+          number_literal (other_number (omega (arith, eqb-false e 0 f)) (omega (arith, eqb-false e 256 g, i)) (omega (arith, x, c)) (omega (arith, x, j, k)))
+
+  value_is : (p q : ℕ) → Form.number_form s p ≡ Ok q → IsLiteral (payload_at s p) (Tree.mantissa_at s (next s p))
+  unfolding Form.number_form Form.high_form Form.low_form
+  value_is p q e =
+      let k = payload_at s p in
+      let h = next s p in
+      let l = next s h in
+      let o = literal_uncut s p q e in
+      let u = two_parts (Form.take_word s 10 257 p) (λ z. Form.then (Form.high_form s k z) (λ r. Form.low_form s k r)) h q (word_ends_at s 10 257 p) e in
+      let v = two_parts (Form.high_form s k h) (λ r. Form.low_form s k r) l q (high_ends_at s k h) u.1 in
+      let x = two_parts (Form.take_word s 11 65536 h) _ l l (word_ends_at s 11 65536 h) v.0 in
+      let y = two_parts (Form.take_word s 11 65536 l) _ (next s l) q (word_ends_at s 11 65536 l) v.1 in
+      halves_make k (payload_at s h) (payload_at s l) _ (word_taken s 10 257 p h u.0).1 o.high o.low o.exact
+      (pick_behind (Form.high_fits k (payload_at s h)) l l (BadWord h) x.1).0
+      (pick_behind (Form.low_fits k (payload_at s l)) (next s l) q (BadWord l) y.1).0
 
   value_stands : (p q : ℕ) → Form.number_form s p ≡ Ok q → Stands s (payload_at s p) (Tree.mantissa_at s (next s p))
   value_stands p q e = let h = literal_uncut s p q e in record { at = p; literal = h; exponent = refl; mantissa = h.exact }
@@ -126,6 +166,16 @@ module _ (s : List ℕ) where
     label = λ p q e. tt;
   }
 
+  numbers : (t : List ℕ) (line : Line) → Carries s t line (of_literals IsLiteral)
+  numbers t line = record {
+    range = λ p q e. tt;
+    name = λ p q e. tt;
+    text = λ p q e. tt;
+    datum = λ p q e. tt;
+    number = λ p q m e h. value_is (next s p) m h;
+    label = λ p q e. tt;
+  }
+
   labels : (t : List ℕ) (line : Line) → Carries s t line (of_labels (LabelStands s))
   labels t line = record {
     range = λ p q e. tt;
@@ -155,6 +205,10 @@ module _ (s t : List ℕ) (work : ℕ) (accepted : checked s t work ≡ Accepted
   -- THEOREM: every number literal in the tree of an accepted sheet has the e and m that stand in the sheet, uncut
   pub literals_uncut : Literals (Stands s) (Tree.program_at s)
   literals_uncut = carried s t work (λ line. of_literals (Stands s)) (λ line u. literals s t line) accepted
+
+  -- THEOREM: every number literal in the tree of an accepted sheet is a number, or too large for one
+  pub literals_are : Literals IsLiteral (Tree.program_at s)
+  literals_are = carried s t work (λ line. of_literals IsLiteral) (λ line u. numbers s t line) accepted
 
   -- THEOREM: every label in the tree of an accepted sheet, of a line or of what refers to one, stands in the sheet, uncut
   pub labels_uncut : Labels (LabelStands s) (Tree.program_at s)

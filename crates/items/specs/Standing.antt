@@ -1,6 +1,6 @@
 -- What stands in the sheet as words that the form checked, uncut: of every range, name, text, datum, number and label of a tree.
 use Rattle.std.specs.Prelude.{◌≡◌, List, true, ℕ, ◌+◌, ◌-◌, ◌*◌, ◌≤◌, ◌<◌, length}
-use Rattle.recorder.specs.Numbers.{word_size, line_size, label_size, half_size}
+use Rattle.recorder.specs.Numbers.{word_size, line_size, label_size, half_size, too_large, value, IsNumber}
 use Rattle.recorder.specs.Calls.{pack, unpack}
 use Rattle.recorder.specs.Word.{kind_at, payload_at, next, range_at}
 use Rattle.recorder.specs.declared.word.Range.{Range}
@@ -47,6 +47,11 @@ pub record Stands (s : List ℕ) (e m : ℕ) : Type 0 where
   pub literal : UncutLiteral s at
   pub exponent : e ≡ payload_at s at
   pub mantissa : m ≡ payload_at s (next s at) * half_size + payload_at s (next s (next s at))
+
+-- the value of a literal is a number, or "256 for too large"
+pub data IsLiteral : ℕ → ℕ → Type 0 where
+  number_literal : {e m : ℕ} → IsNumber (value e m) → IsLiteral e m
+  too_large_literal : IsLiteral too_large 0
 
 -- a number literal is its range and, behind that, its value
 pub record NumberStands (s t : List ℕ) (line : Line) (r : Range) (e m : ℕ) : Type 0 where

@@ -1,7 +1,8 @@
--- Closing up what is the recorder's: WHILEs, delays, End (clean_up of codegen.rs), by document 01's sentences.
+-- Closing up what is the recorder's: WHILEs, delays, End (clean_up of codegen.rs), by document 01's sentences, but for the rounding of
+-- a delay's end.
 use Rattle.std.specs.Prelude.{List, [], ◌∷◌, ◌++◌, Bool, ℕ, zero, suc, ◌+◌, ◌*◌, ◌-◌, ◌/◌, ◌^◌, ltb, eqb, length, get_or}
 use Rattle.recorder.specs.declared.word.Range.{Range}
-use Rattle.recorder.specs.Numbers.{word_size, bias, number_one, Value, value}
+use Rattle.recorder.specs.Numbers.{word_size, bias, number_zero, number_half, number_one, Value, value}
 use Rattle.recorder.specs.StmtKind.{end_stmt, sleep_stmt, wend_stmt}
 use Rattle.recorder.specs.Word.{pick, choose, both, either}
 use Rattle.recorder.specs.Recorder.{Recorder}
@@ -82,16 +83,18 @@ is_stepped_delay rs k =
     both (is_start (rec_at rs k)) (both (is_end (rec_at rs (k + 1))) (both (is_one (rec_at rs (k + 2)))
     (both (is_for 1 (rec_at rs (k + 3))) (is_next_of (rec_at rs (k + 3)) (rec_at rs (k + 4))))))
 
--- "a number end is rounded up to a whole number", where e is above 0. Below 1 it becomes 1; from e 160 on it is whole; between, m is
--- rounded up to a multiple of 2^(160−e).
-abbrev pub up_to : ℕ → ℕ → ℕ
-up_to m unit = (m + unit - 1) / unit * unit
+-- Document 02: "rounds delay counts to the nearest whole step, an exact half going up". "The decision is made on exponent and
+-- mantissa as whole numbers": below one half it becomes zero; from e 160 on it is whole; between, m with half of the unit 2^(160−e)
+-- added is cut to whole units. `rounded_nearest` (crates/closing/proofs/Nearest.antt) says it of the number's value.
+abbrev pub nearest : ℕ → ℕ → ℕ
+nearest m unit = (m + unit / 2) / unit * unit
 
+-- m may have become 2^32
 abbrev pub normal : ℕ → ℕ → Value
 normal e m = pick (ltb m word_size) (value e m) (value (e + 1) (m / 2))
 
-unfoldable pub round_up : ℕ → ℕ → Value
-round_up e m = pick (ltb e number_one.e) number_one (pick (ltb e bias) (normal e (up_to m (2 ^ (bias - e)))) (value e m))
+unfoldable pub rounded : ℕ → ℕ → Value
+rounded e m = pick (ltb e number_half.e) number_zero (pick (ltb e bias) (normal e (nearest m (2 ^ (bias - e)))) (value e m))
 
 -- "It becomes no-op, end, (no-op), SLEEP, no-op ... SLEEP is call 2 with 65, 1, 0; the no-ops have zeros. Line and range words
 -- stay."
@@ -105,7 +108,7 @@ abbrev pub sleep : Rec → Rec
 sleep r = emit_op (remade r) sleep_stmt 1 r.range
 
 abbrev pub whole_end : Rec → Rec
-whole_end r = pick (eqb r.call number_call) (emit_number (remade r) (round_up r.a r.b).e (round_up r.a r.b).m r.range) r
+whole_end r = pick (eqb r.call number_call) (emit_number (remade r) (rounded r.a r.b).e (rounded r.a r.b).m r.range) r
 
 abbrev pub delayed : List Rec → ℕ → List Rec
 delayed rs k = change no_op (change sleep (change whole_end (change no_op rs k) (k + 1)) (k + 2)) (k + 3)

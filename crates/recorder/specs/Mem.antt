@@ -1,11 +1,11 @@
 -- The memory that is compiled into: three lists of words of fixed lengths, and the state.
 -- A put that does not fit changes no word and sets its buffer's flag, which stays.
-use Rattle.std.specs.Prelude.{List, ◌++◌, Bool, true, false, ℕ, zero, suc, ◌+◌, ◌*◌, ◌-◌, ◌/◌, ◌%◌, ◌^◌, min, ltb, eqb, length, get_or, set, take, drop, Option, None, Some, unwrap_or}
+use Rattle.std.specs.Prelude.{List, ◌++◌, Bool, true, false, ℕ, zero, suc, ◌+◌, ◌*◌, ◌-◌, ◌/◌, ◌%◌, min, ltb, eqb, length, get_or, set, take, drop, Option, None, Some, unwrap_or}
 use Rattle.recorder.specs.declared.word.Range.{Range}
 use Rattle.recorder.specs.declared.codegen.Descent.{Descent}
 use Rattle.recorder.specs.declared.codegen.State.{State}
 use Rattle.recorder.specs.declared.label.DatumIndex.{DatumIndex}
-use Rattle.recorder.specs.Numbers.{word_size, payload_size, unknown, bias, number_one}
+use Rattle.recorder.specs.Numbers.{word_size, payload_size, unknown}
 use Rattle.recorder.specs.StmtKind.{end_stmt, sleep_stmt}
 use Rattle.recorder.specs.Calls.{no_op_call, op_call, number_call, while_without_wend, error_note}
 use Rattle.recorder.specs.Word.{pick, both, kind, kind_at, payload_at, range_at, word_of, range_word, next}
@@ -15,7 +15,7 @@ use Rattle.recorder.specs.Layout.{rec_size, note_size, entry_size, most_records}
 use Rattle.recorder.specs.Offsets.{range_word_at, arg_a, arg_b, arg_c, extra_at}
 use Rattle.recorder.specs.Ideal.{Rec, rec, name_kind, datum_kind, byte_kind, no_range, look_of}
 use Rattle.recorder.specs.Recorder.{Recorder, Named, Look}
-use Rattle.recorder.specs.Closing.{is_while, is_wend, is_start, is_end, is_one, is_for, is_next_of, round_up}
+use Rattle.recorder.specs.Closing.{is_while, is_wend, is_start, is_end, is_one, is_for, is_next_of, rounded}
 
 pub record Mem : Type 0 where
   pub list : List ℕ
@@ -355,12 +355,8 @@ no_op_at l k = at_rec (rewrite no_op_call 0 0 0) l k
 abbrev pub sleep_at : List ℕ → ℕ → List ℕ
 sleep_at l k = at_rec (rewrite op_call sleep_stmt 1 0) l k
 
--- what m is rounded up to a multiple of, for e from 129 on
-unfoldable pub unit_of : ℕ → ℕ
-unit_of e = pick (ltb e number_one.e) 1 (2 ^ (bias - e))
-
 unfoldable pub whole_at : List ℕ → ℕ → List ℕ
-whole_at l k = pick (eqb (rec_of l k).call number_call) (at_rec (rewrite number_call (round_up (rec_of l k).a (rec_of l k).b).e (round_up (rec_of l k).a (rec_of l k).b).m 0) l k) l
+whole_at l k = pick (eqb (rec_of l k).call number_call) (at_rec (rewrite number_call (rounded (rec_of l k).a (rec_of l k).b).e (rounded (rec_of l k).a (rec_of l k).b).m 0) l k) l
 
 unfoldable pub delay_at : List ℕ → ℕ → Bool
 delay_at l k = both (is_start (rec_of l k)) (both (is_end (rec_of l (k + 1))) (both (is_for 0 (rec_of l (k + 2))) (is_next_of (rec_of l (k + 2)) (rec_of l (k + 3)))))

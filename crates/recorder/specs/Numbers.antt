@@ -1,5 +1,5 @@
 -- The numbers of document 01's words, lists and limits, each said here alone.
-use Rattle.std.specs.Prelude.{ℕ}
+use Rattle.std.specs.Prelude.{ℕ, ◌≤◌, ◌<◌}
 
 -- sheet and list are "32-bit words"
 abbrev pub word_size : ℕ
@@ -63,9 +63,20 @@ least_mantissa = 2147483648
 abbrev pub least_high : ℕ
 least_high = 32768
 
+abbrev pub number_zero : Value
+number_zero = value 0 0
+
+abbrev pub number_half : Value
+number_half = value 128 least_mantissa
+
 abbrev pub number_one : Value
 number_one = value 129 least_mantissa
 
 -- "exponent e (0 to 255), or 256 for too large"
 abbrev pub too_large : ℕ
 too_large = 256
+
+-- "For e 0 or 256, m is 0; else m is at least 2^31", and m is a word: a number, which is not too large
+pub data IsNumber : Value → Type 0 where
+  zero_number : IsNumber number_zero
+  other_number : {e m : ℕ} → 0 < e → e < too_large → least_mantissa ≤ m → m < word_size → IsNumber (value e m)

@@ -23,7 +23,9 @@ pub const TEXT_LIMIT: u32 = 255;
 // A number is m × 2^(e−160).
 pub const BIAS: u32 = 160;
 
-// The number one has this exponent, and the least mantissa that a number has; that mantissa's high half.
+// The numbers one half and one have these exponents, and the least mantissa that a number has; that mantissa's high half.
+pub const ONE_HALF: u32 = 128;
+
 pub const ONE: u32 = 129;
 
 pub const LEAST_MANTISSA: u32 = 2147483648;

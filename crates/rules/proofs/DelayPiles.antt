@@ -72,7 +72,7 @@ module _ (E : List Entry) where
   for_three r txt P Q e b s = let z : absent ≡ given Q = rw (e, b) at s in let y : ◌≡◌ {A = ℕ} 0 1 = cc in absurd (omega arith)
   for_three r (plc x) P Q e b s = let z : absent ≡ given Q = rw (e, b) at s in let y : ◌≡◌ {A = ℕ} 0 1 = cc in absurd (omega arith)
 
-  -- a delay's end puts on one thing, and does so still when it is rounded up
+  -- a delay's end puts on one thing, and does so still when it is rounded
   pub record Ends (r : Rec) : Type 0 where
     pub kind : Kind
     pub steps : (P : Pile) → step E r P ≡ given (kind ∷ P)

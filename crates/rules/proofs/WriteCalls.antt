@@ -4,7 +4,7 @@ use lib.Seq.{get_or-append_seam}
 use Rattle.recorder.specs.Word.{pick, both}
 use Rattle.recorder.specs.Ideal.{Rec, rec, no_rec, Ideal, change, with_a, look_of, Search, missing, found}
 use Rattle.recorder.specs.Marks.{Mark}
-use Rattle.recorder.specs.Closing.{rules_r, is_while, end_from, end_at, close_whiles, rec_at, is_start, is_end, is_one, is_for, is_next_of, is_delay, is_stepped_delay, no_op, sleep, round_up, whole_end, delayed, stepped_delayed, delay_from, delays, end_rec, clean_up}
+use Rattle.recorder.specs.Closing.{rules_r, is_while, end_from, end_at, close_whiles, rec_at, is_start, is_end, is_one, is_for, is_next_of, is_delay, is_stepped_delay, no_op, sleep, rounded, whole_end, delayed, stepped_delayed, delay_from, delays, end_rec, clean_up}
 use Rattle.recorder.proofs.Words.{change_length}
 use Rattle.recorder.proofs.Bools.{both_left, both_right}
 use Rattle.rules.specs.Program.{Lines, Waiting, jumps, restores, is_pending, resolve_labels, resolve_datum_indices, close_up}
@@ -205,7 +205,7 @@ end_no_write r e = go (end_call r e)
 whole_no_write : (r : Rec) → NoWrite r → NoWrite (whole_end r)
 whole_no_write r h = go (eqb r.call 3)
   where
-    go : (b : Bool) → NoWrite (pick b (rec 3 r.line r.range (round_up r.a r.b).e (round_up r.a r.b).m 0) r)
+    go : (b : Bool) → NoWrite (pick b (rec 3 r.line r.range (rounded r.a r.b).e (rounded r.a r.b).m 0) r)
     go true = refl
     go false = h
 

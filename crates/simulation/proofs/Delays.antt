@@ -11,7 +11,7 @@ use native.Mathlib.Omega.{arith}
 use Rattle.recorder.specs.Word.{pick, both, either}
 use Rattle.recorder.specs.Ideal.{Rec, rec, no_rec, change}
 use Rattle.recorder.specs.Layout.{rec_words, words_of, fill}
-use Rattle.recorder.specs.Closing.{is_start, is_end, is_one, is_for, is_next_of, rec_at, is_delay, is_stepped_delay, round_up, no_op, sleep, whole_end, delayed, stepped_delayed, delay_from, delays}
+use Rattle.recorder.specs.Closing.{is_start, is_end, is_one, is_for, is_next_of, rec_at, is_delay, is_stepped_delay, rounded, no_op, sleep, whole_end, delayed, stepped_delayed, delay_from, delays}
 use Rattle.recorder.specs.Mem.{rec_of, at_rec, rewrite, whole_at, delay_at, stepped_at, delayed_at, stepped_delayed_at, delay_list, delays_from}
 use Rattle.recorder.proofs.Words.{head_again, change_length, cut_rec, rec_of_lem}
 use Rattle.recorder.proofs.Bools.{both_parts}
@@ -51,9 +51,9 @@ holds_whole {size} {rs} {l} h k i = rw (ap (λ (z : Rec). z.call) q, ap (λ (z :
     q = holds_rec h k
 
     go : (c : Bool) → eqb (get_or rs k no_rec).call 3 ≡ c
-        → Holds size (change whole_end rs k) (pick c (at_rec (rewrite 3 (round_up (get_or rs k no_rec).a (get_or rs k no_rec).b).e (round_up (get_or rs k no_rec).a (get_or rs k no_rec).b).m 0) l k) l)
-    go true e = rw (change_same whole_end (λ (z : Rec). rec 3 z.line z.range (round_up r.a r.b).e (round_up r.a r.b).m 0) rs k (rw e))
-        (holds_rewrite h k 3 (round_up r.a r.b).e (round_up r.a r.b).m 0 i)
+        → Holds size (change whole_end rs k) (pick c (at_rec (rewrite 3 (rounded (get_or rs k no_rec).a (get_or rs k no_rec).b).e (rounded (get_or rs k no_rec).a (get_or rs k no_rec).b).m 0) l k) l)
+    go true e = rw (change_same whole_end (λ (z : Rec). rec 3 z.line z.range (rounded r.a r.b).e (rounded r.a r.b).m 0) rs k (rw e))
+        (holds_rewrite h k 3 (rounded r.a r.b).e (rounded r.a r.b).m 0 i)
     go false e = rw (change_none whole_end rs k (rw e)) h
 
 -- the tests

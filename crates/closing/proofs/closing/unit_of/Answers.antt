@@ -1,5 +1,6 @@
-use Rattle.closing.proofs.ClosingLaws.{unit_pow}
+use native.Mathlib.Omega.{arith}
+use Rattle.closing.proofs.ClosingLaws.{pow_small}
 use Rattle.closing.proofs.closing.unit_of.Goals as goal
 
 pub returns : goal.returns
-returns c = unit_pow _ _ c.pow.ensures c.requires.0
+returns c = pow_small _ _ c.pow.ensures (omega (arith, c.requires.0))
