@@ -38,7 +38,8 @@ enum {
 
 /* What the words say. A range: 0x01000000 + start * 4,096 + end, within its line.
    A record: call (top 8 bits) and line, range, three arguments.
-   A note: class (top 8 bits) and line, range, 1 error or 2 warning, 0.
+   A note: class (top 8 bits) and line, range, 1 error or 2 warning, and of class 10 how many units of the name are left out, from
+   its first blank up to its sigil or its end; 0 in all other notes.
    An entry: kind (50 name, 51 datum, 52 byte; top 8 bits) and number within it, start in the text, length, and its sigil's unit,
    whether it is quoted, or the byte.
    Document 01 (01-scope.md, beside the Rust sources that this is a port of) lists calls, classes and the sheet's words. */

@@ -39,6 +39,7 @@ struct hollupsa_record {
 struct hollupsa_note {
   uint32_t class_number, line, start, end;
   uint32_t severity; /* 1 error or 2 warning */
+  uint32_t lost;     /* class 10: how many units of the name are left out; else 0 */
 };
 
 struct hollupsa_entry {
@@ -195,11 +196,12 @@ static inline struct hollupsa_record hollupsa_built_record(const struct hollupsa
 }
 
 static inline struct hollupsa_note hollupsa_built_note(const struct hollupsa_built *form, size_t i) {
-  struct hollupsa_note note = {0, 0, 0, 0, 0};
+  struct hollupsa_note note = {0, 0, 0, 0, 0, 0};
   if (i >= form->notes) return note;
   const unsigned char *const at = form->notes_at + HOLLUPSA_BUILT_NOTE_BYTES * i;
   hollupsa_built_place(at, &note.class_number, &note.line, &note.start, &note.end);
   note.severity = hollupsa_built_word(at + 8);
+  note.lost = hollupsa_built_word(at + 12);
   return note;
 }
 

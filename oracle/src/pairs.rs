@@ -297,6 +297,25 @@ pub fn pairs() -> Vec<Pair> {
   let listing = "0 0 1 0 0 0\n1 0 3 132 3221225472 0\n2 0 1 0 0 0\n3 0 2 65 1 0\n4 0 1 0 0 0\n5 0 2 17 0 0\n";
   add("FOR STEP at 3", delay(Some(1), twelve, true), listing, name());
 
+  // Document 02's name, of which 4 units are left out, and three more: 2, 1, 5.
+  let input = input_of(vec![single(|m| {
+    m.put("READ");
+    let vars = [" DIA ONE$", ",A B", ",A $", ",A  B C%"].map(|part| {
+      let (before, name) = part.split_at(1);
+      m.put(before);
+      m.ident(name)
+    });
+    StmtKind::Read(NonEmptyVec::new(vars.to_vec()).unwrap())
+  })]);
+  let listing = "0 0 7 0 0 0\n1 0 30 0 0 0\n2 0 7 1 0 0\n3 0 30 0 0 0\n4 0 7 2 0 0\n5 0 30 0 0 0\n6 0 7 3 0 0\n7 0 30 0 0 0\n8 0 2 17 0 0\nnote 10 0 5 13\nnote 10 0 14 17\nnote 10 0 18 21\nnote 10 0 22 29\n";
+  let book = [
+    [50, 0, 5, 3, 36],
+    [50, 1, 14, 1, 0],
+    [50, 2, 18, 1, 36],
+    [50, 3, 22, 1, 37],
+  ];
+  add("names with units left out", input, listing, Some(book.to_vec()));
+
   // Depth 64, 65: taken, 5.
   let mut listing = "0 0 3 129 2147483648 0\n".to_string();
   for at in 1..63 {

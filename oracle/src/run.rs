@@ -29,13 +29,15 @@ pub struct Note {
   pub end: usize,
   /// 1 error, 2 warning.
   pub severity: u32,
+  /// How many units of a name are left out; the Rust does not say it.
+  pub lost: u32,
 }
 
 impl Note {
   pub fn words(&self) -> [u32; 4] {
     let head = (self.class << 24) + self.line as u32;
     let range = crate::ast::Range::new(self.start, self.end);
-    [head, sheet::range_word(&range), self.severity, 0]
+    [head, sheet::range_word(&range), self.severity, self.lost]
   }
 }
 
@@ -85,7 +87,7 @@ pub fn answer(input: &Input) -> Answer {
 /// 02's points.
 pub fn compile(words: &[u32], units: &[u16]) -> Compiled {
   let mut made = compile_as_rust(words, units);
-  points::apply(&mut made);
+  points::apply(&mut made, words, units);
   made
 }
 
@@ -109,7 +111,7 @@ pub fn notes(prog: &Program) -> Vec<Note> {
       let class = class(diagnostic);
       let severity = if diagnostic.is_error { 1 } else { 2 };
       let (start, end) = (diagnostic.range.start, diagnostic.range.end);
-      let note = Note { class, line, start, end, severity };
+      let note = Note { class, line, start, end, severity, lost: 0 };
       all.push((diagnostic.made, note));
     }
   }

@@ -29,7 +29,7 @@ use crate::rust_text::{self, EXPR_RS, STMT_RS};
 
 pub fn selftest(out: &mut impl Write) -> io::Result<bool> {
   type Test = fn() -> Result<String, String>;
-  let tests: [(&str, Test); 23] = [
+  let tests: [(&str, Test); 24] = [
     ("options that a command does not take are refused", options),
     ("tables follow the enums of stmt.rs and expr.rs", tables),
     ("the project's tables are the Rust's, each word", rust_text::tables_held),
@@ -39,6 +39,7 @@ pub fn selftest(out: &mut impl Write) -> io::Result<bool> {
     ("listings worked out by hand", readings),
     ("a quoted datum of one quote panics in the Rust", one_quote_panics),
     ("rounding up and to the nearest", rounding),
+    ("units left out of a name", units_left_out),
     ("decimal texts and their values", decimals),
     ("sheets there and back", round_trips),
     ("form and decoder on damaged sheets", damaged),
@@ -301,6 +302,24 @@ fn rounding() -> Result<String, String> {
     let nearest = standins::Mbf5::try_from((num + 0.5).floor());
     let nearest = nearest.map_err(|_| "too large")?;
     same(points::nearest(e, m), (nearest.e, nearest.m))?;
+  }
+  Ok(String::new())
+}
+
+/// Document 02's names, and some more, with the units that are left out.
+fn units_left_out() -> Result<String, String> {
+  let names = [
+    ("DIA ONE$", 4),
+    ("A B", 2),
+    ("A $", 1),
+    ("A  B C%", 5),
+    ("A   %", 3),
+    ("DIA$", 0),
+    ("A", 0),
+  ];
+  for (name, wanted) in names {
+    let units: Vec<u16> = name.encode_utf16().collect();
+    same(points::left_out(&units), wanted)?;
   }
   Ok(String::new())
 }

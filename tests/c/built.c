@@ -1,6 +1,6 @@
-/* A built form read through include/hollupsa_built.h: document 01's listing of it, or, with "--damage" behind the file, the reader
-   on damaged copies. Each must be refused, or, where the checksum was made good again, be read to its end without a step outside it
-   (build with -fsanitize=address,undefined to see one). */
+/* A built form read through include/hollupsa_built.h: document 01's listing of it; with "--whole" behind the file all that its
+   records, notes and entries say; with "--damage" the reader on damaged copies. Each must be refused, or, where the checksum was
+   made good again, be read to its end without a step outside it (build with -fsanitize=address,undefined to see one). */
 #include "hollupsa_built.h"
 #include <inttypes.h>
 #include <stdio.h>
@@ -51,6 +51,25 @@ static void list(const struct hollupsa_built *form) {
   }
 }
 
+/* All that its records, notes and entries say. */
+static void list_whole(const struct hollupsa_built *form) {
+  for (size_t i = 0; i < form->records; i++) {
+    const struct hollupsa_record r = hollupsa_built_record(form, i);
+    printf("record %" PRIu32 " line %" PRIu32 " from %" PRIu32 " to %" PRIu32, r.call, r.line, r.start, r.end);
+    printf(" arguments %" PRIu32 " %" PRIu32 " %" PRIu32 "\n", r.arguments[0], r.arguments[1], r.arguments[2]);
+  }
+  for (size_t i = 0; i < form->notes; i++) {
+    const struct hollupsa_note n = hollupsa_built_note(form, i);
+    printf("note %" PRIu32 " line %" PRIu32 " from %" PRIu32 " to %" PRIu32, n.class_number, n.line, n.start, n.end);
+    printf(" severity %" PRIu32 " lost %" PRIu32 "\n", n.severity, n.lost);
+  }
+  for (size_t i = 0; i < form->entries; i++) {
+    const struct hollupsa_entry e = hollupsa_built_entry(form, i);
+    printf("entry %" PRIu32 " number %" PRIu32 " from %" PRIu32, e.kind, e.number, e.start);
+    printf(" length %" PRIu32 " extra %" PRIu32 "\n", e.length, e.extra);
+  }
+}
+
 /* Everything in the form, and one step further. */
 static void read_all(const struct hollupsa_built *form) {
   uint32_t all = 0;
@@ -60,7 +79,7 @@ static void read_all(const struct hollupsa_built *form) {
   }
   for (size_t i = 0; i <= form->notes; i++) {
     const struct hollupsa_note n = hollupsa_built_note(form, i);
-    all ^= n.class_number ^ n.line ^ n.start ^ n.end ^ n.severity;
+    all ^= n.class_number ^ n.line ^ n.start ^ n.end ^ n.severity ^ n.lost;
   }
   for (size_t i = 0; i <= form->entries; i++) {
     const struct hollupsa_entry e = hollupsa_built_entry(form, i);
@@ -226,8 +245,10 @@ static int damage(const struct hollupsa_built *form, unsigned char *bytes, size_
 }
 
 int main(int count, char **arguments) {
-  if (count != 2 && !(count == 3 && strcmp(arguments[2], "--damage") == 0)) {
-    fputs("built FILE, or built FILE --damage, where FILE is a built form\n", stderr);
+  const char *const option = count == 3 ? arguments[2] : "";
+  const int whole = strcmp(option, "--whole") == 0;
+  if (count != 2 && !whole && strcmp(option, "--damage") != 0) {
+    fputs("built FILE, or built FILE --whole or --damage, where FILE is a built form\n", stderr);
     return 2;
   }
   size_t length;
@@ -240,7 +261,9 @@ int main(int count, char **arguments) {
     return 1;
   }
   int failed = 0;
-  if (count == 2) {
+  if (whole) {
+    list_whole(&form);
+  } else if (count == 2) {
     list(&form);
   } else {
     failed = damage(&form, bytes, length);

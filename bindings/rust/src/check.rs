@@ -490,7 +490,7 @@ impl<'a> Facts<'a> {
   fn finding(&self, note: Note, explanation: Option<&Explanation>) -> Finding {
     let mut message = note.to_string();
     if note.class == 10 {
-      message += &format!(": it is cut to {}", cut_name(&self.piece(note)));
+      message += &format!("; it is cut to {}", cut_name(&self.piece(note)));
     }
     let (expected, hint) = match explanation {
       Some(Explanation { expected, hint, .. }) => {

@@ -177,6 +177,7 @@ impl Compiled {
       line: payload(w[0]),
       range: range_of(w[1]),
       warning: w[2] == 2,
+      lost: w[3] as usize,
     })
   }
 
@@ -224,6 +225,9 @@ pub struct Note {
   pub line: usize,
   pub range: tree::Range,
   pub warning: bool,
+  /// Class 10: how many units of the name are left out, from its first blank up
+  /// to its sign or its end. 0 in all others.
+  pub lost: usize,
 }
 
 /// What the notes of each class say, from class 1.
@@ -254,8 +258,13 @@ impl Note {
 impl fmt::Display for Note {
   fn fmt(&self, f: &mut fmt::Formatter<'_>) -> fmt::Result {
     match self.message() {
-      Some(message) => f.write_str(message),
-      None => write!(f, "a note of the unknown class {}", self.class),
+      Some(message) => f.write_str(message)?,
+      None => write!(f, "a note of the unknown class {}", self.class)?,
+    }
+    match (self.class, self.lost) {
+      (10, 1) => f.write_str(": 1 unit of the name is left out"),
+      (10, lost @ 2..) => write!(f, ": {lost} units of the name are left out"),
+      _ => Ok(()),
     }
   }
 }

@@ -60,7 +60,7 @@ fn refusal(bytes: &[u8]) -> BuiltError {
 /// One of each part, and an odd text: a no-op, a note, a name, `A%` in a line.
 fn small() -> Vec<u8> {
   let record = [0x01000000, 0x01000002, 0, 0, 0];
-  let note = [0x05000000, 0x01000002, 1, 0];
+  let note = [0x0a000000, 0x01000002, 2, 7];
   let entry = [0x32000000, 0, 1, 0x25];
   let text = [3, 0x0025_0041, 0x0000_000a];
   let words = [&record[..], &note, &entry, &text].concat();
@@ -93,7 +93,8 @@ fn every_part_comes_back() {
   let built = Built::read(&bytes).unwrap();
   assert_eq!(built.write(), bytes);
   let note = built.compiled.notes().next().unwrap();
-  assert_eq!((note.class, note.line, note.warning), (5, 0, false));
+  assert_eq!((note.class, note.line, note.warning), (10, 0, true));
+  assert_eq!(note.lost, 7);
   let entry = built.compiled.entries().next().unwrap();
   assert_eq!((entry.number, entry.start, entry.len), (0, 0, 1));
   assert_eq!(built.text, [0x41, 0x25, 0x0a]);

@@ -65,7 +65,7 @@ fn each_class_is_told_at_its_place() {
     ("10 A=1E39".to_string(), "1:6-10: error[9]: number too large"),
     (
       "10 DIA Q$=\"\"".to_string(),
-      "1:4-10: warning[10]: blank in a name: it is cut to DIA$",
+      "1:4-10: warning[10]: blank in a name: 2 units of the name are left out; it is cut to DIA$",
     ),
     (
       "10 WRITE 1+2,\"A\" 3".to_string(),

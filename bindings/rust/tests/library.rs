@@ -39,6 +39,15 @@ fn encodes_the_worked_example() {
   assert_eq!(read("10 GOTO 10"), program);
 }
 
+/// Document 02's name and three more, and a note of another class.
+#[test]
+fn a_note_says_how_many_units_are_left_out() {
+  let text = "READ DIA ONE$,A B,A $,A  B C%:WRITE \"A\" 3";
+  let compiled = compile(&read(text).encode(), &units(text)).unwrap();
+  let said: Vec<_> = compiled.notes().map(|it| (it.class, it.lost)).collect();
+  assert_eq!(said, [(10, 4), (10, 2), (10, 1), (10, 5), (11, 0)]);
+}
+
 /// Each statement once, with missing parts, in the sheet's order.
 fn each_statement() -> Vec<StmtKind> {
   use StmtKind::*;

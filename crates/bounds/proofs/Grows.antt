@@ -1,6 +1,6 @@
 -- What compiling an expression, and a statement, makes at most, for any recorder whose operations are counted: all that a statement
 -- makes is within what its words allow. Of facts that every operation keeps it says that they hold of all that is made.
-use mathlib.Core.Path.{refl}
+use mathlib.Core.Path.{◌≡◌, refl}
 use mathlib.Core.List.{List, [], ◌∷◌}
 use mathlib.Core.Bool.{Bool, true, false}
 use Prim.Native.Nat.{ℕ, zero, suc, ◌+◌}
@@ -10,19 +10,19 @@ use native.Mathlib.Omega.{arith}
 use Rattle.recorder.specs.Word.{pick, both, either}
 use Rattle.recorder.specs.declared.word.Range.{Range}
 use Rattle.recorder.specs.Recorder.{Recorder}
-use Rattle.recorder.specs.Calls.{Awaited, no_label, for_label, emit_goto, emit_gosub}
+use Rattle.recorder.specs.Calls.{Awaited, no_label, for_label, emit_goto, emit_gosub, warning_note, blank_in_name}
 use Rattle.sheet.specs.Tree.{Opt, absent, given, Expr, ident, string_lit, number_lit, sys_func_call, user_func_call, binary, unary, index, inkey, error, Exprs, none, more, expr_range, count, Datum, FieldSpec, Target, OnTarget, Len, WriteElement, PrintElement, value, comma, semicolon, InputSource, keyboard, file, Stmt, rem, op₀, op₁, op₂, op₃, draw, set, data_list, def, dim, field, for, go, if_then, if_else, input, assign, load, locate, next_of, on, open_file, print, read, restore, swap, system, while, write, Stmts, end, then}
 use Rattle.rules.specs.declared.types.«Type».{«Type» as Ty}
 use Rattle.rules.specs.declared.types.«Type».TheVariants.{Integer, Real, String, Error}
 use Rattle.rules.specs.Types.{matches_type, exact_matches}
 use Rattle.rules.specs.Name.{read_name}
 use Rattle.rules.specs.Tables.{draw_arity, drawn, operand, signature_of, tab, spc, wanted, every_real}
-use Rattle.rules.specs.Expr.{Out, text_size, quoted_length, is_text, compile_sym, check_type, check_real, real_sym, var_node, text_node, number_node, arity_notes, func_notes, func_node, opt_real_sym, user_call, like_node, arith_node, binary_node, unary_node, index_node, compile_expr, compile_args, compile_typed, index_place, compile_lvalue}
+use Rattle.rules.specs.Expr.{Out, text_size, quoted_length, is_text, blank_note, compile_sym, check_type, check_real, real_sym, var_node, text_node, number_node, arity_notes, func_notes, func_node, opt_real_sym, user_call, like_node, arith_node, binary_node, unary_node, index_node, compile_expr, compile_args, compile_typed, index_place, compile_lvalue}
 use Rattle.rules.specs.Stmt.{byte_of, is_ident, datum_length, label_or0, is_value, is_file, is_tab_spc, is_last, surplus_notes, draw_node, datum_node, compile_data, def_node, compile_def, dim_node, dim_one, compile_dim, place_typed, compile_fields, compile_field, compile_step, for_node, compile_for, compile_go, compile_restore, input_arg_by, fn_place, fn_input, input_var, input_vars, input_source, compile_input, assign_call, assign_node, compile_let, bad_byte, bad_bytes, all_bytes, load_byte, load_bytes, load_node, compile_load, locate_row, locate_column, compile_locate, next_one, next_each, compile_next, on_jumps, compile_on, open_node, compile_open, tab_call, print_value, behind_value, print_one, print_each, empty_line, compile_print, compile_read, compile_swap, compile_while, write_value, write_each, compile_write, compile_stmt, compile_stmts}
 use Rattle.bounds.specs.Size.{expr_words, exprs_words, opt_expr, opt_target, opt_len, source_words, element_words, elements_words, written_words, specs_words, ones, twos, stmt_words, stmts_words}
 use Rattle.bounds.proofs.Tally.{Tally, makes, reads, valued, args, noted, entered, plus_is, Counts, CountsLines, two_words, count_words}
 
-module _ {S : Type 0} {R : Recorder S} {P : Tally → S → Type 0} (κ : Counts R P) (t : List ℕ) (base : ℕ) where
+module _ {S : Type 0} {R : Recorder S} {P : Tally → S → Type 0} (t : List ℕ) (base : ℕ) (κ : Counts R t base P) where
   -- what is allowed and not made
   unmade : {k : Tally} {s : S} (r n b : ℕ) → P k s → P (makes r n b k) s
   unmade {k} r n b p = κ.fit p (omega (arith, plus_is r k.records, plus_is n k.notes, plus_is b k.entries))
@@ -36,17 +36,24 @@ module _ {S : Type 0} {R : Recorder S} {P : Tally → S → Type 0} (κ : Counts
   pick_out a b false p q = q
 
   -- names, and notes about kinds
+  grow_blank : {k : Tally} {s : S} (r : Range) → P k s → P (makes 0 1 0 k) (blank_note R t base (read_name t base r).lost r s)
+  grow_blank {k} {s} r p = go (ltb 0 (read_name t base r).lost) refl
+    where
+      go : (b : Bool) → ltb 0 (read_name t base r).lost ≡ b → P (makes 0 1 0 k) (pick b (R.note_lost s blank_in_name r warning_note (read_name t base r).lost) s)
+      go true e = κ.blank r e p
+      go false e = unmade 0 1 0 p
+
   grow_sym : {k : Tally} {s : S} (r : Range) → P k s → P (makes 0 1 1 k) (compile_sym R t base r s).state
   unfolding compile_sym
-  grow_sym r p = κ.symbol (pick_in (ltb 0 (read_name t base r).lost) (κ.warning p) (unmade 0 1 0 p))
+  grow_sym r p = κ.symbol (grow_blank r p)
 
   grow_check : {k : Tally} {s : S} (want : Ty) (r : Range) (x : Ty) → P k s → P (makes 0 1 0 k) (check_type R t base want r x s)
   unfolding check_type
-  grow_check want r x p = pick_in (matches_type x want) (unmade 0 1 0 p) (κ.error p)
+  grow_check want r x p = pick_in (matches_type x want) (unmade 0 1 0 p) (κ.error refl p)
 
   grow_real_sym : {k : Tally} {s : S} (r : Range) → P k s → P (makes 0 2 1 k) (real_sym R t base r s).state
   unfolding real_sym check_real
-  grow_real_sym {s = s} r p = let q = grow_sym r p in pick_in (exact_matches (compile_sym R t base r s).ty Real) (unmade 0 1 0 q) (κ.error q)
+  grow_real_sym {s = s} r p = let q = grow_sym r p in pick_in (exact_matches (compile_sym R t base r s).ty Real) (unmade 0 1 0 q) (κ.error refl q)
 
   grow_opt_real_sym : {k : Tally} {s : S} (f : Opt Range) → P k s → P (makes 0 2 1 k) (opt_real_sym R t base f s).state
   grow_opt_real_sym absent p = unmade 0 2 1 p
@@ -55,17 +62,17 @@ module _ {S : Type 0} {R : Recorder S} {P : Tally → S → Type 0} (κ : Counts
   -- expressions
   grow_text : {k : Tally} {s : S} (r : Range) → P k s → P (makes 1 1 0 k) (text_node R t base r s)
   unfolding text_node
-  grow_text r p = let q = κ.emit refl p in pick_in (ltb 255 (text_size (quoted_length t base r))) (κ.error q) (unmade 0 1 0 q)
+  grow_text r p = let q = κ.emit refl p in pick_in (ltb 255 (text_size (quoted_length t base r))) (κ.error refl q) (unmade 0 1 0 q)
 
   grow_number : {k : Tally} {s : S} (r : Range) (e m : ℕ) → P k s → P (makes 1 1 0 k) (number_node R t base r e m s)
   unfolding number_node
-  grow_number r e m p = pick_in (eqb e 256) (unmade 1 0 0 (κ.error p)) (unmade 0 1 0 (κ.emit refl p))
+  grow_number r e m p = pick_in (eqb e 256) (unmade 1 0 0 (κ.error refl p)) (unmade 0 1 0 (κ.emit refl p))
 
   grow_func_notes : {k : Tally} {s : S} (f n : ℕ) (fr r : Range) → P k s → P (makes 0 2 0 k) (func_notes R t base f n fr r s)
   unfolding func_notes arity_notes
   grow_func_notes f n fr r p =
-      let q = pick_in (either (eqb f tab) (eqb f spc)) (κ.error p) (unmade 0 1 0 p) in
-      pick_in (ltb n (signature_of f).min) (κ.error q) (pick_in (ltb (length (signature_of f).args) n) (κ.error q) (unmade 0 1 0 q))
+      let q = pick_in (either (eqb f tab) (eqb f spc)) (κ.error refl p) (unmade 0 1 0 p) in
+      pick_in (ltb n (signature_of f).min) (κ.error refl q) (pick_in (ltb (length (signature_of f).args) n) (κ.error refl q) (unmade 0 1 0 q))
 
   grow_user : {k : Tally} {s : S} (f : Opt Range) (r : Range) (n : ℕ) → P k s → P (makes 1 0 0 k) (user_call R t base f r n s)
   grow_user absent r n p = unmade 1 0 0 p
@@ -74,7 +81,7 @@ module _ {S : Type 0} {R : Recorder S} {P : Tally → S → Type 0} (κ : Counts
   grow_like : {k : Tally} {s : S} (f : ℕ) (r o : Range) (x y : Ty) → P k s → P (makes 1 2 0 k) (like_node R t base f r o x y s).state
   unfolding like_node
   grow_like f r o x y p =
-      pick_out _ _ (matches_type x y) (unmade 0 2 0 (pick_in (is_text x) (κ.emit refl p) (κ.emit refl p))) (unmade 1 1 0 (κ.error p))
+      pick_out _ _ (matches_type x y) (unmade 0 2 0 (pick_in (is_text x) (κ.emit refl p) (κ.emit refl p))) (unmade 1 1 0 (κ.error refl p))
 
   grow_arith : {k : Tally} {s : S} (f : ℕ) (r ar br : Range) (x y : Ty) → P k s → P (makes 1 2 0 k) (arith_node R t base f r ar br x y s).state
   unfolding arith_node
@@ -141,20 +148,20 @@ module _ {S : Type 0} {R : Recorder S} {P : Tally → S → Type 0} (κ : Counts
   grow_surplus : (n : ℕ) (es : Exprs) {k : Tally} {s : S} → P k s → P (noted es k) (surplus_notes R t base n es s)
   unfolding surplus_notes count
   grow_surplus n none p = κ.fit p (omega arith)
-  grow_surplus zero (more e es) p = κ.fit (grow_surplus zero es (κ.error p)) (omega arith)
+  grow_surplus zero (more e es) p = κ.fit (grow_surplus zero es (κ.error refl p)) (omega arith)
   grow_surplus (suc n) (more e es) p = κ.fit (grow_surplus n es p) (omega arith)
 
   grow_draw : {k : Tally} {s : S} (f : ℕ) (r : Range) (es : Exprs) → P k s → P (reads (3 + exprs_words es) k) (draw_node R t base f r es (compile_args R t base (drawn f) zero es s))
   unfolding draw_node
   grow_draw f r es p =
       let q = grow_args (drawn f) zero es p in
-      pick_in (ltb (count es) (draw_arity f).min) (κ.fit (κ.error q) (omega arith))
+      pick_in (ltb (count es) (draw_arity f).min) (κ.fit (κ.error refl q) (omega arith))
       (pick_in (ltb (draw_arity f).max (count es)) (κ.fit (grow_surplus (draw_arity f).max es q) (omega arith)) (κ.fit (κ.emit refl q) (omega arith)))
 
   -- DATA
   grow_datum : {k : Tally} {s : S} (d : Datum) → P k s → P (makes 0 1 1 k) (datum_node R t base d s)
   unfolding datum_node
-  grow_datum d p = let q = κ.datum p in pick_in (ltb 255 (text_size (datum_length t base d))) (κ.error q) (unmade 0 1 0 q)
+  grow_datum d p = let q = κ.datum p in pick_in (ltb 255 (text_size (datum_length t base d))) (κ.error refl q) (unmade 0 1 0 q)
 
   grow_data : (ds : List Datum) {k : Tally} {s : S} → P k s → P (reads (twos ds) k) (compile_data R t base ds s)
   unfolding compile_data twos
@@ -215,7 +222,7 @@ module _ {S : Type 0} {R : Recorder S} {P : Tally → S → Type 0} (κ : Counts
   -- INPUT
   grow_input_arg : {k : Tally} {s : S} (b : Bool) (e : Expr) → P k s → P (makes 0 2 1 k) (input_arg_by R t base b e s).state
   grow_input_arg true e p = grow_real_sym (expr_range e) p
-  grow_input_arg false e p = unmade 0 1 1 (κ.error p)
+  grow_input_arg false e p = unmade 0 1 1 (κ.error refl p)
 
   grow_fn_place : {k : Tally} {s : S} (f : Opt Range) (b : Bool) (r : Range) (n a : ℕ) → P k s → P (makes 1 0 0 k) (fn_place R t base f b r n a s)
   grow_fn_place absent b r n a p = unmade 1 0 0 p
@@ -224,7 +231,7 @@ module _ {S : Type 0} {R : Recorder S} {P : Tally → S → Type 0} (κ : Counts
 
   grow_fn_input : {k : Tally} {s : S} (b : Bool) (r : Range) (f : Opt Range) (e : Expr) → P k s → P (valued (user_func_call r f e) k) (fn_input R t base b r f e s)
   unfolding expr_words
-  grow_fn_input true r f e p = κ.fit (κ.error p) (omega arith)
+  grow_fn_input true r f e p = κ.fit (κ.error refl p) (omega arith)
   grow_fn_input false r f e p = κ.fit (grow_fn_place f (is_ident e) r _ _ (grow_input_arg (is_ident e) e (grow_opt_real_sym f p))) (omega (arith, two_words e))
 
   grow_input_var : {k : Tally} {s : S} (b : Bool) (e : Expr) → P k s → P (valued e k) (input_var R t base b e s)
@@ -259,11 +266,11 @@ module _ {S : Type 0} {R : Recorder S} {P : Tally → S → Type 0} (κ : Counts
 
   grow_assign : {k : Tally} {s : S} (r : Range) (x y : Ty) → P k s → P (makes 1 1 0 k) (assign_node R t base r x y s)
   unfolding assign_node
-  grow_assign r x y p = grow_assign_call x r (pick_in (matches_type x y) (unmade 0 1 0 p) (κ.error p))
+  grow_assign r x y p = grow_assign_call x r (pick_in (matches_type x y) (unmade 0 1 0 p) (κ.error refl p))
 
   -- LOAD
   grow_bad_byte : {k : Tally} {s : S} (o : Opt ℕ) (r : Range) → P k s → P (makes 0 1 0 k) (bad_byte R t base o r s)
-  grow_bad_byte absent r p = κ.error p
+  grow_bad_byte absent r p = κ.error refl p
   grow_bad_byte (given b) r p = unmade 0 1 0 p
 
   grow_bad_bytes : (es : Exprs) {k : Tally} {s : S} → P k s → P (noted es k) (bad_bytes R t base es s)
@@ -282,7 +289,7 @@ module _ {S : Type 0} {R : Recorder S} {P : Tally → S → Type 0} (κ : Counts
 
   grow_load_node : {k : Tally} {s : S} (r : Range) (es : Exprs) → P k s → P (reads (1 + exprs_words es) k) (load_node R t base r es s)
   unfolding load_node
-  grow_load_node r none p = κ.fit (κ.error p) (omega arith)
+  grow_load_node r none p = κ.fit (κ.error refl p) (omega arith)
   grow_load_node r (more e es) p =
       let q = grow_bad_bytes (more e es) p in
       let h = count_words (more e es) in
@@ -307,7 +314,7 @@ module _ {S : Type 0} {R : Recorder S} {P : Tally → S → Type 0} (κ : Counts
   grow_next_one n r absent p = κ.fit p (omega arith)
   grow_next_one {s = s} n r (given v) p =
       let q = grow_sym v p in
-      κ.fit (κ.emit refl (pick_in (matches_type (compile_sym R t base v s).ty Real) (unmade 0 1 0 q) (κ.error q))) (omega arith)
+      κ.fit (κ.emit refl (pick_in (matches_type (compile_sym R t base v s).ty Real) (unmade 0 1 0 q) (κ.error refl q))) (omega arith)
 
   grow_next_each : (n : ℕ) (r : Range) (vs : List (Opt Range)) {k : Tally} {s : S} → P k s → P (reads (ones vs) k) (next_each R t base n r vs s)
   unfolding next_each ones
@@ -329,7 +336,7 @@ module _ {S : Type 0} {R : Recorder S} {P : Tally → S → Type 0} (κ : Counts
   grow_open : {k : Tally} {s : S} (r : Range) (m : ℕ) (l : Opt Len) → P k s → P (reads (opt_len l) k) (open_node R t base r m l s)
   grow_open r m absent p = κ.fit (κ.emit refl p) (omega arith)
   grow_open r m (given l) p =
-      let q = grow_typed Real l.value (pick_in (ltb 1 m) (κ.error p) (unmade 0 1 0 p)) in
+      let q = grow_typed Real l.value (pick_in (ltb 1 m) (κ.error refl p) (unmade 0 1 0 p)) in
       pick_in (eqb m 0) (κ.fit q (omega arith)) (κ.fit (κ.emit refl q) (omega arith))
 
   -- PRINT
@@ -384,14 +391,14 @@ module _ {S : Type 0} {R : Recorder S} {P : Tally → S → Type 0} (κ : Counts
   grow_swap {s = s} r a b p =
       let x = compile_lvalue R t base a s in
       let q = grow_lvalue b (grow_lvalue a p) in
-      κ.emit refl (pick_in (exact_matches x.ty (compile_lvalue R t base b x.state).ty) (unmade 0 1 0 q) (κ.error q))
+      κ.emit refl (pick_in (exact_matches x.ty (compile_lvalue R t base b x.state).ty) (unmade 0 1 0 q) (κ.error refl q))
 
   -- WRITE
   grow_write_value : {k : Tally} {s : S} (n : ℕ) (d : WriteElement) (b : Bool) (x : Ty) → P k s → P (makes 1 1 0 k) (write_value R t base n d b x s)
   unfolding write_value
   grow_write_value n d b x p =
       pick_in (either b (eqb d.comma 1)) (unmade 0 1 0 (pick_in (matches_type x Real) (κ.emit refl p) (κ.emit refl p)))
-      (pick_in (matches_type x Real) (κ.emit refl (κ.warning p)) (κ.emit refl (κ.warning p)))
+      (pick_in (matches_type x Real) (κ.emit refl (κ.warning refl p)) (κ.emit refl (κ.warning refl p)))
 
   grow_write_each : (n : ℕ) (ds : List WriteElement) {k : Tally} {s : S} → P k s → P (reads (written_words ds) k) (write_each R t base n ds s)
   unfolding write_each written_words
@@ -435,7 +442,7 @@ module _ {S : Type 0} {R : Recorder S} {P : Tally → S → Type 0} (κ : Counts
       grow_stmt (read r es) p = κ.fit (grow_read es p) (omega arith)
       grow_stmt (restore r x) p = κ.fit (grow_restore r x p) (omega arith)
       grow_stmt (swap r a b) p = κ.fit (grow_swap r a b p) (omega arith)
-      grow_stmt (system r) p = κ.fit (κ.error p) (omega arith)
+      grow_stmt (system r) p = κ.fit (κ.error refl p) (omega arith)
       grow_stmt (while r e) p = κ.fit (κ.emit_while (grow_typed Real e p)) (omega arith)
       grow_stmt (write r f ds) p = κ.fit (grow_write r f ds p) (omega arith)
 
@@ -443,13 +450,14 @@ module _ {S : Type 0} {R : Recorder S} {P : Tally → S → Type 0} (κ : Counts
       grow_stmts end p = κ.fit p (omega arith)
       grow_stmts (then x xs) p = κ.fit (grow_stmts xs (grow_stmt x p)) (omega arith)
 
-module _ {S : Type 0} {R : Recorder S} {m : ℕ} {P : Tally → S → Type 0} {D : ℕ → Tally → S → Type 0} (κ : CountsLines R m P D) (t : List ℕ) (base : ℕ) where
-  grow_def : (k : Tally) (s : S) (x y : Opt Range) (r : Range) (n a : ℕ) (e : Expr) → P k s → P (makes 2 1 0 (valued e k)) (def_node R t base x y r n a e s)
-  grow_def k s absent y r n a e p = unmade κ.counts t base 2 0 0 (grow_typed κ.counts t base Real e p)
-  grow_def k s (given nr) absent r n a e p = unmade κ.counts t base 2 0 0 (grow_typed κ.counts t base Real e p)
+module _ {S : Type 0} {R : Recorder S} {t : List ℕ} {m : ℕ} {starts : ℕ → ℕ} {P : Tally → S → Type 0} {W : ℕ → Tally → S → Type 0} {D : ℕ → ℕ → Tally → S → Type 0}
+    (κ : CountsLines R t m starts P W D) (base : ℕ) where
+  grow_def : (k : Tally) (s : S) (x y : Opt Range) (r : Range) (n a : ℕ) (e : Expr) → W base k s → W base (makes 2 1 0 (valued e k)) (def_node R t base x y r n a e s)
+  grow_def k s absent y r n a e p = let γ = κ.counts base in unmade t base γ 2 0 0 (grow_typed t base γ Real e p)
+  grow_def k s (given nr) absent r n a e p = let γ = κ.counts base in unmade t base γ 2 0 0 (grow_typed t base γ Real e p)
   grow_def k s (given nr) (given pr) r n a e p =
-      let δ = κ.body (R.count s) in
-      κ.end_def (δ.emit refl (grow_typed δ t base Real e (κ.begin_def p)))
+      let δ = κ.body base (R.count s) in
+      κ.end_def (δ.emit refl (grow_typed t base δ Real e (κ.begin_def p)))
 
-  pub grow_block : {k : Tally} {s : S} (xs : Stmts) → P k s → P (reads (stmts_words xs) k) (compile_stmts R t base xs s)
-  grow_block xs p = grow_stmts κ.counts t base grow_def xs p
+  pub grow_block : {k : Tally} {s : S} (xs : Stmts) → W base k s → W base (reads (stmts_words xs) k) (compile_stmts R t base xs s)
+  grow_block xs p = grow_stmts t base (κ.counts base) grow_def xs p

@@ -1,46 +1,64 @@
 -- A program's words bound its records, notes and book entries, closed up too. Closing up adds at most one note for each jump or
 -- RESTORE that waits for its label and for each WHILE: such a record counts as a note from the beginning.
-use mathlib.Core.Path.{◌≡◌, refl, sym}
+use mathlib.Core.Path.{◌≡◌, refl, sym, ap, ◌∙◌}
 use mathlib.Core.List.{List, [], ◌∷◌, ◌++◌}
 use mathlib.Core.Bool.{Bool, true, false}
 use Prim.Native.Nat.{ℕ, zero, suc, ◌+◌, ◌*◌, ◌-◌, ◌≤◌, ◌<◌}
 use lib.Dec.{ltb}
-use lib.ListN.{length, length-append}
+use lib.ListN.{length, get_or, length-append}
 use borrow.Author.Tests.{eqb-true}
 use native.Mathlib.Omega.{arith}
 use Rattle.recorder.specs.Numbers.{unknown}
-use Rattle.recorder.specs.Calls.{unpack, label_word, range_number, while_call, error_note, warning_note}
+use Rattle.recorder.specs.Calls.{unpack, label_word, range_number, while_call, error_note, warning_note, blank_in_name}
 use Rattle.recorder.specs.Word.{pick, both, either}
 use Rattle.recorder.specs.Recorder.{Recorder, Look}
-use Rattle.recorder.specs.Ideal.{Rec, rec, note_of, Entry, Ideal, ideal, Search, missing, found, find_name, symbol_in, symbol_of, change, with_a, with_c, settled, unlabelled, look_of}
+use Rattle.recorder.specs.Ideal.{Rec, rec, lost_note, note_of, Entry, Ideal, ideal, Search, missing, found, find_name, symbol_in, symbol_of, change, with_a, with_c, settled, unlabelled, look_of}
 use Rattle.recorder.specs.Marks.{Mark}
 use Rattle.recorder.specs.Closing.{is_while, rec_at, end_from, close_whiles, open_note, open_notes, delays, end_rec, clean_up, rules_r}
 use Rattle.recorder.proofs.Bools.{true_not_false, both_left, both_right}
 use Rattle.recorder.proofs.Words.{length_snoc, change_length}
 use Rattle.simulation.proofs.Clean.{close_length, delays_length}
 use Rattle.sheet.specs.Tree.{Opt, absent, given, Target, ProgramLine}
+use Rattle.rules.specs.Name.{read_name}
 use Rattle.rules.specs.Program.{Lines, Waiting, is_pending, label_note, compile_line, compile_lines, first_line, settle_by, resolve, close_up}
 use Rattle.rules.proofs.Waits.{Waits, jumps_wait, restores_wait, of_waiting}
 use Rattle.bounds.specs.Size.{opt_target, line_words, lines_words, program_words}
 use Rattle.bounds.specs.Bounded.{Bounded}
 use Rattle.bounds.specs.Finished.{waits_for_label}
+use Rattle.bounds.specs.Uncut.{bases_taken}
 use Rattle.bounds.proofs.Tally.{Tally, tally, makes, reads, Counts, CountsLines}
 use Rattle.bounds.proofs.Grows.{pick_in, grow_block}
 
 -- lines
-module _ {S : Type 0} {R : Recorder S} {m : ℕ} {P : Tally → S → Type 0} {D : ℕ → Tally → S → Type 0} (κ : CountsLines R m P D) (t : List ℕ) where
-  grow_label : {k : Tally} {s : S} (base last : ℕ) (l : Opt Target) → P k s → P (reads (opt_target l) k) (label_note R t base last l s)
-  grow_label base last absent p = κ.counts.fit p (omega arith)
-  grow_label base last (given l) p = pick_in κ.counts t base (ltb l.label last) (κ.counts.fit (κ.counts.error p) (omega arith)) (κ.counts.fit p (omega arith))
+module _ {S : Type 0} {R : Recorder S} {t : List ℕ} {m : ℕ} {starts : ℕ → ℕ} {P : Tally → S → Type 0} {W : ℕ → Tally → S → Type 0} {D : ℕ → ℕ → Tally → S → Type 0} (κ : CountsLines R t m starts P W D) where
+  grow_label : {k : Tally} {s : S} (base last : ℕ) (l : Opt Target) → W base k s → W base (reads (opt_target l) k) (label_note R t base last l s)
+  grow_label base last absent p = (κ.counts base).fit p (omega arith)
+  grow_label base last (given l) p =
+      let γ = κ.counts base in
+      pick_in t base γ (ltb l.label last) (γ.fit (γ.error refl p) (omega arith)) (γ.fit p (omega arith))
 
-  grow_line : {k : Tally} (l : ProgramLine) (c : Lines S) → c.line < m → P k c.state → P (reads (line_words l) k) (compile_line R t l c).state
+  grow_line : {k : Tally} (l : ProgramLine) (c : Lines S) → c.line < m → starts c.line ≡ c.base → P k c.state → P (reads (line_words l) k) (compile_line R t l c).state
   unfolding compile_line
-  grow_line l c h p = κ.counts.fit (grow_block κ t c.base l.stmts (grow_label c.base c.last l.label (κ.begin_line h p))) (omega arith)
+  grow_line l c h e p =
+      let q = grow_label c.base c.last l.label (rw e at (κ.begin_line h p)) in
+      κ.end_line ((κ.counts c.base).fit (grow_block κ c.base l.stmts q) (omega arith))
 
-  pub grow_lines : (ls : List ProgramLine) (c : Lines S) {k : Tally} → c.line + length ls ≤ m → P k c.state → P (reads (lines_words ls) k) (compile_lines R t ls c).state
-  unfolding compile_lines compile_line lines_words
-  grow_lines [] c h p = κ.counts.fit p (omega arith)
-  grow_lines (l ∷ ls) c h p = κ.counts.fit (grow_lines ls (compile_line R t l c) (omega (arith, h)) (grow_line l c (omega (arith, h)) p)) (omega arith)
+  -- the lines from c on
+  pub grow_lines : (ls : List ProgramLine) (c : Lines S) {k : Tally} → c.line + length ls ≤ m → ((j : ℕ) → j < length ls → starts (c.line + j) ≡ get_or (bases_taken R t ls c) j 0)
+      → P k c.state → P (reads (lines_words ls) k) (compile_lines R t ls c).state
+  unfolding compile_lines compile_line lines_words bases_taken
+  grow_lines [] c h e p = κ.between p (omega arith)
+  grow_lines (l ∷ ls) c h e p =
+      let here : starts c.line ≡ c.base = rw (plus_none c.line) at (e 0 (omega arith)) in
+      let next = grow_line l c (omega (arith, h)) here p in
+      κ.between
+      (grow_lines ls (compile_line R t l c) (omega (arith, h)) (λ j g. ap starts (plus_one c.line j) ∙ e (suc j) (omega (arith, g))) next) (omega arith)
+    where
+      plus_none : (n : ℕ) → n + 0 ≡ n
+      plus_none n = omega arith
+
+      plus_one : (n j : ℕ) → n + 1 + j ≡ n + suc j
+      plus_one n j = omega arith
 
 -- the records for which closing up may add a note: those that wait for a label, and WHILEs
 abbrev one : Bool → ℕ
@@ -102,9 +120,9 @@ symbol_room : {k : Tally} {i : Ideal} (o : Search) (x n g : ℕ) → Room k i �
 symbol_room (found v) x n g p = omega arith
 symbol_room missing x n g p = entry_room _ _ p
 
-counts : (t : List ℕ) → Counts (rules_r t) Room
+counts : (t : List ℕ) (base : ℕ) → Counts (rules_r t) t base Room
 unfolding symbol_of
-counts t = record {
+counts t base = record {
   emit = λ {s = i} {c} {r} {x} {y} {z} e p.
       let v = rec c i.line r x y z in
       omega (arith, length_snoc i.records v, later_snoc i.records v, no_later (waits_for_label c) (ltb 0 y) (is_while v) e);
@@ -114,8 +132,9 @@ counts t = record {
   emit_while = λ {s = i} {r} {x} p.
       let v = rec while_call i.line r x unknown 0 in
       omega (arith, length_snoc i.records v, later_snoc i.records v);
-  error = λ {s = i} {c} {r} p. omega (arith, length_snoc i.notes (note_of c i.line r error_note));
-  warning = λ {s = i} {c} {r} p. omega (arith, length_snoc i.notes (note_of c i.line r warning_note));
+  error = λ {s = i} {c} {r} e p. omega (arith, length_snoc i.notes (note_of c i.line r error_note));
+  warning = λ {s = i} {c} {r} e p. omega (arith, length_snoc i.notes (note_of c i.line r warning_note));
+  blank = λ {s = i} r e p. omega (arith, length_snoc i.notes (lost_note blank_in_name i.line r warning_note (read_name t base r).lost));
   symbol = λ {s = i} {x} {n} {g} p. symbol_room (find_name t i.entries x n g) x n g p;
   datum = λ p. entry_room _ _ p;
   byte = λ p. entry_room _ _ p;
@@ -123,13 +142,15 @@ counts t = record {
   fit = λ p h. omega arith;
 }
 
-counts_lines : (t : List ℕ) (m : ℕ) → CountsLines (rules_r t) m Room (λ a. Room)
-counts_lines t m = record {
+counts_lines : (t : List ℕ) (m : ℕ) (starts : ℕ → ℕ) → CountsLines (rules_r t) t m starts Room (λ b. Room) (λ b a. Room)
+counts_lines t m starts = record {
+  between = λ p h. (counts t 0).fit p h;
   counts = counts t;
-  body = λ a. counts t;
-  begin_def = λ p. (counts t).emit refl p;
+  body = λ b a. counts t b;
+  begin_def = λ p. (counts t 0).emit refl p;
   end_def = λ {s = i} {a} {v} p. omega (arith, change_length (with_c v) i.records a, later_same (with_c v) (λ r. refl) i.records a);
   begin_line = λ h p. omega arith;
+  end_line = λ p. p;
 }
 
 -- a jump or a RESTORE gets its target, or a note
@@ -192,10 +213,18 @@ nothing : Room (tally 0 0 0 0 0) (ideal [] [] [] 0 0)
 unfolding later_notes
 nothing = omega arith
 
+-- where the rules take the lines to begin
+abbrev pub starts_taken : List ℕ → List ProgramLine → ℕ → ℕ
+starts_taken t ls l = get_or (bases_taken (rules_r t) t ls (first_line (rules_r t) t (ideal [] [] [] 0 0))) l 0
+
+pub from_the_first : (t : List ℕ) (ls : List ProgramLine) (j : ℕ) → starts_taken t ls (0 + j) ≡ starts_taken t ls j
+from_the_first t ls j = ap (starts_taken t ls) (omega arith)
+
 -- Three times a form's records never exceed four times its sheet's words; there are at most two notes and one entry a word.
 pub grows : (t : List ℕ) (ls : List ProgramLine)
     → Bounded (program_words ls) (close_up (rules_r t) (compile_lines (rules_r t) t ls (first_line (rules_r t) t (ideal [] [] [] 0 0))))
 unfolding close_up
 grows t ls =
     clean_room (lines_words ls) _ (resolve_room t restores_wait _ 0 _ (resolve_room t jumps_wait _ 0 _
-    ((counts t).fit (grow_lines (counts_lines t (length ls)) t ls (first_line (rules_r t) t (ideal [] [] [] 0 0)) (omega arith) nothing) (omega arith))))
+    ((counts t 0).fit
+    (grow_lines (counts_lines t (length ls) (starts_taken t ls)) ls (first_line (rules_r t) t (ideal [] [] [] 0 0)) (omega arith) (λ j g. from_the_first t ls j) nothing) (omega arith))))

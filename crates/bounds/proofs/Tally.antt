@@ -1,15 +1,17 @@
 -- Tallies of words, which bound the records, notes and entries that are made, and the recorders whose operations are counted by
 -- them, or keep a fact of all that was made.
 use mathlib.Core.Path.{◌≡◌}
-use mathlib.Core.Bool.{Bool, false}
+use mathlib.Core.Bool.{Bool, true, false}
 use Prim.Native.Nat.{ℕ, zero, suc, ◌+◌, ◌*◌, ◌≤◌, ◌<◌}
-use lib.Dec.{eqb}
+use lib.Dec.{eqb, ltb}
+use mathlib.Core.List.{List}
 use native.Mathlib.Omega.{arith}
 use Rattle.recorder.specs.Word.{either}
 use Rattle.recorder.specs.declared.word.Range.{Range}
 use Rattle.recorder.specs.Recorder.{Recorder}
-use Rattle.recorder.specs.Calls.{Awaited, label_word, range_number, while_call, emit_while, begin_def_fn, error_note, warning_note}
+use Rattle.recorder.specs.Calls.{Awaited, label_word, range_number, while_call, emit_while, begin_def_fn, error_note, warning_note, blank_in_name}
 use Rattle.sheet.specs.Tree.{Expr, ident, string_lit, number_lit, sys_func_call, user_func_call, binary, unary, index, inkey, error, Exprs, none, more, count}
+use Rattle.rules.specs.Name.{read_name}
 use Rattle.bounds.specs.Size.{expr_words, exprs_words}
 use Rattle.bounds.specs.Finished.{waits_for_label}
 
@@ -65,27 +67,33 @@ pub record AtMost (k l : Tally) : Type 0 where
 abbrev pub note_later : ℕ → Bool
 note_later c = either (waits_for_label c) (eqb c while_call)
 
--- P k s: what s holds is within the tally k, or a fact of all that s holds
-pub record Counts {S : Type 0} (R : Recorder S) (P : Tally → S → Type 0) : Type 0 where
+-- P k s: what s holds is within the tally k, or a fact of all that s holds. The line's units begin at `base`.
+pub record Counts {S : Type 0} (R : Recorder S) (t : List ℕ) (base : ℕ) (P : Tally → S → Type 0) : Type 0 where
   pub emit : {k : Tally} {s : S} {c : ℕ} {r : Range} {x y z : ℕ} → note_later c ≡ false → P k s → P (makes 1 0 0 k) (R.emit s c r x y z)
   -- a jump or a RESTORE, with what it waits for; a WHILE
   pub emit_waiting : {k : Tally} {s : S} {c : ℕ} {r : Range} {x : ℕ} (w : Awaited) → P k s → P (makes 1 1 0 k) (R.emit s c r x (label_word w) (range_number w))
   pub emit_while : {k : Tally} {s : S} {r : Range} {x : ℕ} → P k s → P (makes 1 1 0 k) (emit_while (R.emit s) x r)
-  pub error : {k : Tally} {s : S} {c : ℕ} {r : Range} → P k s → P (makes 0 1 0 k) (R.note s c r error_note)
-  pub warning : {k : Tally} {s : S} {c : ℕ} {r : Range} → P k s → P (makes 0 1 0 k) (R.note s c r warning_note)
+  pub error : {k : Tally} {s : S} {c : ℕ} {r : Range} → eqb c blank_in_name ≡ false → P k s → P (makes 0 1 0 k) (R.note s c r error_note)
+  pub warning : {k : Tally} {s : S} {c : ℕ} {r : Range} → eqb c blank_in_name ≡ false → P k s → P (makes 0 1 0 k) (R.note s c r warning_note)
+  -- the warning on a name of which units are lost
+  pub blank : {k : Tally} {s : S} (r : Range) → ltb 0 (read_name t base r).lost ≡ true → P k s
+      → P (makes 0 1 0 k) (R.note_lost s blank_in_name r warning_note (read_name t base r).lost)
   pub symbol : {k : Tally} {s : S} {x n g : ℕ} → P k s → P (makes 0 0 1 k) (R.symbol s x n g).state
   pub datum : {k : Tally} {s : S} {x n q : ℕ} → P k s → P (makes 0 0 1 k) (R.datum s x n q)
   pub byte : {k : Tally} {s : S} {x n v : ℕ} → P k s → P (makes 0 0 1 k) (R.byte s x n v)
   pub patch : {k : Tally} {s : S} {a v : ℕ} → P k s → P k (R.patch s a v)
   pub fit : {k l : Tally} {s : S} → P k s → AtMost k l → P l s
 
--- so of a program of n lines; while a function's body is made, D a k s says also that the function's call 26 stands at the address a
-pub record CountsLines {S : Type 0} (R : Recorder S) (n : ℕ) (P : Tally → S → Type 0) (D : ℕ → Tally → S → Type 0) : Type 0 where
-  pub counts : Counts R P
-  pub body : (a : ℕ) → Counts R (D a)
-  pub begin_def : {k : Tally} {s : S} {r : Range} {x y : ℕ} → P k s → D (R.count s) (makes 1 0 0 k) (begin_def_fn (R.emit s) x y r)
-  pub end_def : {k : Tally} {s : S} {a v : ℕ} → D a k s → P k (R.patch_end s a v)
-  pub begin_line : {k : Tally} {s : S} {l : ℕ} → l < n → P k s → P k (R.begin_line s l)
+-- So of a program of n lines, of which each begins where `starts` says: P between them, W b in one that begins at b. While a function's
+-- body is made, D b a k s says also that the function's call 26 stands at the address a.
+pub record CountsLines {S : Type 0} (R : Recorder S) (t : List ℕ) (n : ℕ) (starts : ℕ → ℕ) (P : Tally → S → Type 0) (W : ℕ → Tally → S → Type 0) (D : ℕ → ℕ → Tally → S → Type 0) : Type 0 where
+  pub between : {k l : Tally} {s : S} → P k s → AtMost k l → P l s
+  pub counts : (b : ℕ) → Counts R t b (W b)
+  pub body : (b a : ℕ) → Counts R t b (D b a)
+  pub begin_def : {b : ℕ} {k : Tally} {s : S} {r : Range} {x y : ℕ} → W b k s → D b (R.count s) (makes 1 0 0 k) (begin_def_fn (R.emit s) x y r)
+  pub end_def : {b : ℕ} {k : Tally} {s : S} {a v : ℕ} → D b a k s → W b k (R.patch_end s a v)
+  pub begin_line : {k : Tally} {s : S} {l : ℕ} → l < n → P k s → W (starts l) k (R.begin_line s l)
+  pub end_line : {b : ℕ} {k : Tally} {s : S} → W b k s → P k s
 
 pub two_words : (e : Expr) → 2 ≤ expr_words e
 unfolding expr_words

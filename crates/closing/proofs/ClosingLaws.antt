@@ -49,7 +49,7 @@ while_other l top k c f e g h i =
 
 -- the WHILEs that are open
 pub open_step_lem : (m m1 : Mem) (l : List ℕ) (t t' k end : ℕ) (P : Passed) → k < end → open_from (passed_of m) t (end - k) ≡ P → (t ≡ 0 → ⊥) → t' ≡ link_at m.list (t - 1)
-    → m1 ≡ put_note m (word_of 13 (get_or m.list (5 * (t - 1)) 0)) (get_or m.list (5 * (t - 1) + 1) 0) 1 → l ≡ at_rec (set_b 4294967295) m1.list (t - 1)
+    → m1 ≡ put_note m (word_of 13 (get_or m.list (5 * (t - 1)) 0)) (get_or m.list (5 * (t - 1) + 1) 0) 1 0 → l ≡ at_rec (set_b 4294967295) m1.list (t - 1)
     → open_from (passed l m1.notes m1.st) t' (end - (k + 1)) ≡ P
 unfolding open_from
 open_step_lem m m1 l t t' k end P h e z b g x =

@@ -384,7 +384,7 @@ module _ (G : List ℕ → List ℕ) (K : (l : List ℕ) → Keeps G l) where
       let r : w < length l / 5 = omega arith in
       let z : suc w - 1 ≡ w = omega arith in
       rw (ne_eqb (suc w) 0 (λ e. omega arith), z, ← (K l).commutes w unknown x, (K l).words w (5 * w) x (omega arith) (omega arith), (K l).words w (5 * w + 1) x (omega arith) (omega arith), link_same l w x)
-      (open_commutes left (at_rec (set_b unknown) l w) (note_list n s (word_of 13 (get_or l (5 * w) 0)) (get_or l (5 * w + 1) 0) 1) (note_st n s) (opens_b w unknown (c r) (i r)) (omega (arith, i r, b_long l w unknown)))
+      (open_commutes left (at_rec (set_b unknown) l w) (note_list n s (word_of 13 (get_or l (5 * w) 0)) (get_or l (5 * w + 1) 0) 1 0) (note_st n s) (opens_b w unknown (c r) (i r)) (omega (arith, i r, b_long l w unknown)))
 
 -- the whole pass over the WHILEs, and those left open
 while_long : (l : List ℕ) (top k : ℕ) → length (while_list l top k) ≡ length l

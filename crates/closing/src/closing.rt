@@ -124,11 +124,11 @@ fn code_word(code: &CodeGen, at: Addr, i: usize) -> u32
 // The note on a WHILE without WEND: its record's line and range.
 fn open_note(code: &mut CodeGen, w: Addr)
     ensures same { SameLoans code.old code.new }
-    ensures value { mem_of code.new ≡ put_note (mem_of code.old) (word_of while_without_wend (get_or code.old.list.now (rec_size * w.0) 0)) (get_or code.old.list.now (rec_size * w.0 + range_word_at) 0) error_note }
+    ensures value { mem_of code.new ≡ put_note (mem_of code.old) (word_of while_without_wend (get_or code.old.list.now (rec_size * w.0) 0)) (get_or code.old.list.now (rec_size * w.0 + range_word_at) 0) error_note 0 }
 {
     let line = code_word(code, w, 0);
     let range = code_word(code, w, RANGE);
-    code.put_note(Class::WhileWithoutWend, line, range)
+    code.put_note(Class::WhileWithoutWend, line, range, 0)
 }
 
 // The end of patch_while_instr of the Rust: a note on each WHILE left open, the last first. `n`, how many records the list has, bounds

@@ -1,3 +1,4 @@
 pub mod Carried
 pub mod Standing
+pub mod Names
 pub mod Together

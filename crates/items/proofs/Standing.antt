@@ -145,7 +145,7 @@ module _ (s : List ℕ) where
           unit = datum_unit n (range_at s p) (refused (Form.lacks_unit n (range_at s p)) (next s m) q (BadRange p) w.1);
         }
 
-    standing : Carries s t line (Standing s t line)
+    pub standing : Carries s t line (Standing s t line)
     unfolding range_stands value_stands
     standing = record {
       range = range_stands;

@@ -1,3 +1,4 @@
 pub mod Items
 pub mod Carries
 pub mod Standing
+pub mod Names

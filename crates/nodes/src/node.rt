@@ -51,13 +51,13 @@ pub fn check_type(code: &mut CodeGen, want: Type, r: Range, ty: Type)
     code.note(Class::KindsDiffer, r)
 }
 
-// A warning where units of a name are lost.
+// A warning where units of a name are lost, and how many.
 fn blank_note(code: &mut CodeGen, lost: u32, r: Range)
     ensures same { SameLoans code.old code.new }
     ensures value { (t : List ℕ) (base : ℕ) → mem_of code.new ≡ blank_note (mem_r t) t base lost r (mem_of code.old) }
 {
     if 0 < lost {
-        code.note(Class::BlankInName, r)
+        code.note_lost(Class::BlankInName, r, lost)
     }
 }
 

@@ -40,6 +40,9 @@ module _ {S : Type 0} {R Q : Recorder S} {t u : List ℕ} {I : S → Type 0} (κ
   pub noted : {s v : S} {k : ℕ} {r : Range} {n : ℕ} → Same I s v → Same I (R.note s k r n) (Q.note v k r n)
   noted g = rw g.is (κ.note g.keeps)
 
+  lost_noted : {s v : S} {k : ℕ} {r : Range} {w n : ℕ} → Same I s v → Same I (R.note_lost s k r w n) (Q.note_lost v k r w n)
+  lost_noted g = rw g.is (κ.note_lost g.keeps)
+
   pub counted : {s v : S} → Same I s v → R.count s ≡ Q.count v
   counted g = rw g.is (κ.count g.keeps)
 
@@ -53,7 +56,7 @@ module _ {S : Type 0} {R Q : Recorder S} {t u : List ℕ} {I : S → Type 0} (κ
       let e = read_name_same t u base r h in
       let n = read_name u base r in
       let k : SameUnits t u n.name.start n.name.len = rw e at (name_units t u base r h) in
-      let y = named κ n.name.start n.name.len n.name.sigil k (pick_same (ltb 0 n.lost) (noted κ {k = 10} {r = r} {n = 2} g) g) in
+      let y = named κ n.name.start n.name.len n.name.sigil k (pick_same (ltb 0 n.lost) (lost_noted κ {k = 10} {r = r} {w = 2} {n = n.lost} g) g) in
       rw e record { follows = y.follows; number = y.number; ty = refl }
 
   pub same_check : {s v : S} {x y : Ty} (want : Ty) (r : Range) → x ≡ y → Same I s v

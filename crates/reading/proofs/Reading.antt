@@ -33,6 +33,7 @@ pub record Alike {S : Type 0} (R Q : Recorder S) (t u : List ℕ) (I : S → Typ
   pub emit : {s : S} {k : ℕ} {r : Range} {a b c : ℕ} → I s → Same I (R.emit s k r a b c) (Q.emit s k r a b c)
   pub count : {s : S} → I s → R.count s ≡ Q.count s
   pub note : {s : S} {k : ℕ} {r : Range} {v : ℕ} → I s → Same I (R.note s k r v) (Q.note s k r v)
+  pub note_lost : {s : S} {k : ℕ} {r : Range} {v n : ℕ} → I s → Same I (R.note_lost s k r v n) (Q.note_lost s k r v n)
   pub symbol : {s : S} (x n g : ℕ) → SameUnits t u x n → I s → SameNamed I (R.symbol s x n g) (Q.symbol s x n g)
   pub datum : {s : S} {x n q : ℕ} → I s → Same I (R.datum s x n q) (Q.datum s x n q)
   pub first_datum : {s : S} → I s → R.first_datum s ≡ Q.first_datum s

@@ -20,6 +20,7 @@ one_recorder R t u = record {
   emit = λ i. record { is = refl; keeps = tt };
   count = λ i. refl;
   note = λ i. record { is = refl; keeps = tt };
+  note_lost = λ i. record { is = refl; keeps = tt };
   symbol = λ x n g h i. record { follows = record { is = refl; keeps = tt }; number = refl };
   datum = λ i. record { is = refl; keeps = tt };
   first_datum = λ i. refl;
@@ -56,6 +57,7 @@ module _ (t u : List ℕ) where
     emit = λ i. record { is = refl; keeps = i };
     count = λ i. refl;
     note = λ i. record { is = refl; keeps = i };
+    note_lost = λ i. record { is = refl; keeps = i };
     symbol = λ {s = s} x n g h i. let e = find_name_same s.entries x n g h i in record {
       follows = record { is = rw e refl; keeps = symbol_kept (find_name u s.entries x n g) s x n g h i };
       number = rw e refl;

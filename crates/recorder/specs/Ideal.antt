@@ -19,15 +19,20 @@ pub record Rec : Type 0 where
 abbrev pub rec : ℕ → ℕ → Range → ℕ → ℕ → ℕ → Rec
 rec k l r x y z = record { call = k; line = l; range = r; a = x; b = y; c = z }
 
--- "Notes: class ... and line, range, 1 error or 2 warning, 0."
+-- "Notes: class ... and line, range, 1 error or 2 warning, 0." Document 02 puts a number in place of that 0: how many units of a name
+-- were lost. "All other notes keep 0 there".
 pub record Note : Type 0 where
   pub class : ℕ
   pub line : ℕ
   pub range : Range
   pub severity : ℕ
+  pub lost : ℕ
+
+abbrev pub lost_note : ℕ → ℕ → Range → ℕ → ℕ → Note
+lost_note k l r v n = record { class = k; line = l; range = r; severity = v; lost = n }
 
 abbrev pub note_of : ℕ → ℕ → Range → ℕ → Note
-note_of k l r v = record { class = k; line = l; range = r; severity = v }
+note_of k l r v = lost_note k l r v 0
 
 -- "Book entries in order of making (head: kind ... and number within it, which calls cite; start; length; extra)"
 pub record Entry : Type 0 where
@@ -144,6 +149,7 @@ ideal_r t clean = record {
   count = λ i. length i.records;
   note = λ i k r v. ideal i.records (i.notes ++ (note_of k i.line r v ∷ [])) i.entries i.line i.first_datum;
   note_at = λ i l k r v. ideal i.records (i.notes ++ (note_of k l r v ∷ [])) i.entries i.line i.first_datum;
+  note_lost = λ i k r v n. ideal i.records (i.notes ++ (lost_note k i.line r v n ∷ [])) i.entries i.line i.first_datum;
   symbol = λ i s l x. symbol_of t i s l x;
   datum = λ i s l q. ideal i.records i.notes (added datum_kind i.entries s l q) i.line (first_of i.first_datum (next_number datum_kind i.entries));
   first_datum = λ i. i.first_datum;

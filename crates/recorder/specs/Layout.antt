@@ -10,7 +10,7 @@ rec_words r = word_of r.call r.line ∷ range_word r.range ∷ r.a ∷ r.b ∷ r
 
 -- "class (top 8 bits) and line, range, 1 error or 2 warning, 0"
 abbrev pub note_words : Note → List ℕ
-note_words n = word_of n.class n.line ∷ range_word n.range ∷ n.severity ∷ 0 ∷ []
+note_words n = word_of n.class n.line ∷ range_word n.range ∷ n.severity ∷ n.lost ∷ []
 
 -- "head: kind, top 8 bits, and number within it ...; start; length; extra"
 abbrev pub entry_words : Entry → List ℕ

@@ -116,8 +116,8 @@ put_rec l s k r a b c = put_list l s (word_of k (line_in s)) (range_word r) a b 
 abbrev pub four : List ℕ → ℕ → ℕ → ℕ → ℕ → ℕ → List ℕ
 four l n h x y z = set (set (set (set l (4 * n) h) (4 * n + 1) x) (4 * n + 2) y) (4 * n + 3) z
 
-unfoldable pub note_list : List ℕ → State → ℕ → ℕ → ℕ → List ℕ
-note_list l s h r v = pick (ltb (notes_in s) (length l / note_size)) (four l (notes_in s) h r v 0) l
+unfoldable pub note_list : List ℕ → State → ℕ → ℕ → ℕ → ℕ → List ℕ
+note_list l s h r v n = pick (ltb (notes_in s) (length l / note_size)) (four l (notes_in s) h r v n) l
 
 unfoldable pub note_st : List ℕ → State → State
 note_st l s = pick (ltb (notes_in s) (length l / note_size)) (record s { notes = s.notes + 1 }) (record s { notes_full = true })
@@ -328,7 +328,7 @@ passed l n s = record { list = l; notes = n; st = s }
 abbrev pub open_step : Passed → ℕ → Passed
 open_step p w =
     passed (at_rec (set_b unknown) p.list w)
-    (note_list p.notes p.st (word_of while_without_wend (get_or p.list (rec_size * w) 0)) (get_or p.list (rec_size * w + range_word_at) 0) error_note)
+    (note_list p.notes p.st (word_of while_without_wend (get_or p.list (rec_size * w) 0)) (get_or p.list (rec_size * w + range_word_at) 0) error_note 0)
     (note_st p.notes p.st)
 
 unfoldable pub open_from : Passed → ℕ → ℕ → Passed
@@ -399,14 +399,17 @@ put m k r a b c = mem (put_rec m.list m.st k r a b c) m.notes m.book (put_st m.l
 abbrev pub current_addr : Mem → ℕ
 current_addr m = as_word (records_in m.st)
 
-abbrev pub put_note : Mem → ℕ → ℕ → ℕ → Mem
-put_note m h r v = mem m.list (note_list m.notes m.st h r v) m.book (note_st m.notes m.st)
+abbrev pub put_note : Mem → ℕ → ℕ → ℕ → ℕ → Mem
+put_note m h r v n = mem m.list (note_list m.notes m.st h r v n) m.book (note_st m.notes m.st)
 
 abbrev pub note_at : Mem → ℕ → ℕ → Range → ℕ → Mem
-note_at m l k r v = put_note m (word_of k l) (range_word r) v
+note_at m l k r v = put_note m (word_of k l) (range_word r) v 0
 
 abbrev pub note : Mem → ℕ → Range → ℕ → Mem
 note m k r v = note_at m (line_in m.st) k r v
+
+abbrev pub note_lost : Mem → ℕ → Range → ℕ → ℕ → Mem
+note_lost m k r v n = put_note m (word_of k (line_in m.st)) (range_word r) v n
 
 abbrev pub put_entry : Mem → ℕ → ℕ → ℕ → ℕ → Mem
 put_entry m h x y z = mem m.list m.notes (entry_list m.book m.st h x y z) (entry_st m.book m.st)
@@ -446,6 +449,7 @@ mem_r t = record {
   count = current_addr;
   note = note;
   note_at = note_at;
+  note_lost = note_lost;
   symbol = make_symbol t;
   datum = emit_datum;
   first_datum = first_datum;

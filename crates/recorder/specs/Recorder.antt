@@ -24,6 +24,8 @@ pub record Recorder (S : Type 0) : Type 0 where
   -- a note on the current line: its class, its range, 1 error or 2 warning; and one on a line that is named
   pub note : S → ℕ → Range → ℕ → S
   pub note_at : S → ℕ → ℕ → Range → ℕ → S
+  -- a note on the current line that says besides how many units of a name were lost
+  pub note_lost : S → ℕ → Range → ℕ → ℕ → S
   -- make_symbol: the name of so many units from a place of the text, with its sigil's unit or 0
   pub symbol : S → ℕ → ℕ → ℕ → Named S
   -- emit_datum: start, length, quoted; and the line's first datum plus 1, 0 while it has none

@@ -7,7 +7,7 @@ ghost use Rattle.recorder.specs.Optional.{plus_one};
 ghost use Rattle.recorder.specs.Name.{upper, same_units, same_name};
 ghost use Rattle.recorder.specs.Layout.{rec_size, entry_size, most_records};
 ghost use Rattle.recorder.specs.Offsets.{extra_at};
-ghost use Rattle.recorder.specs.Mem.{nothing, names_in, sigil_code, link_of, with_link, known, child_of, may_link, root_of, records_in, named_at, hash_step, hash_of, descent_to, linked_at, root_in, low, more, four, tag_of, name_tag, tagged_at, lookup, entry_of, set_a, set_c, settle_args, clear_args, rec_of, look_at, begin_line, put, put_note, note, note_at, put_entry, new_symbol, make_symbol, emit_datum, load_byte, next_byte, current_addr, patched};
+ghost use Rattle.recorder.specs.Mem.{nothing, names_in, sigil_code, link_of, with_link, known, child_of, may_link, root_of, records_in, named_at, hash_step, hash_of, descent_to, linked_at, root_in, low, more, four, tag_of, name_tag, tagged_at, lookup, entry_of, set_a, set_c, settle_args, clear_args, rec_of, look_at, begin_line, put, put_note, note, note_at, note_lost, put_entry, new_symbol, make_symbol, emit_datum, load_byte, next_byte, current_addr, patched};
 ghost use Rattle.recorder.specs.CodeGen.{mem_of, SameLoans, look_is, emit};
 
 use crate::call::{Call, Class};
@@ -428,13 +428,13 @@ impl CodeGen<'_> {
 
     // A note, its range as a word. put_entry differs in three fields: one function for both would be lent buffer, count and flag.
     #[tactic(auto, unfolding(crate::specs::Mem::note_list, crate::specs::Mem::note_st))]
-    pub fn put_note(&mut self, class: Class, line: u32, w: u32)
+    pub fn put_note(&mut self, class: Class, line: u32, w: u32, lost: u32)
         ensures same { SameLoans self.old self.new }
-        ensures value { mem_of self.new ≡ put_note (mem_of self.old) (word_of (class_number class) line) w (severity_of class) }
+        ensures value { mem_of self.new ≡ put_note (mem_of self.old) (word_of (class_number class) line) w (severity_of class) lost }
     {
         let n = self.st.notes;
         let h = word_of(class.number(), line);
-        if put_four(self.notes, n, h, w, class.severity(), 0) {
+        if put_four(self.notes, n, h, w, class.severity(), lost) {
             self.st.notes = n + 1;
         } else {
             self.st.notes_full = true;
@@ -454,7 +454,15 @@ impl CodeGen<'_> {
         ensures same { SameLoans self.old self.new }
         ensures value { mem_of self.new ≡ note_at (mem_of self.old) line (class_number class) r (severity_of class) }
     {
-        self.put_note(class, line, range_word(r))
+        self.put_note(class, line, range_word(r), 0)
+    }
+
+    // A note on the current line that says how many units of a name were lost.
+    pub fn note_lost(&mut self, class: Class, r: Range, lost: u32)
+        ensures same { SameLoans self.old self.new }
+        ensures value { mem_of self.new ≡ note_lost (mem_of self.old) (class_number class) r (severity_of class) lost }
+    {
+        self.put_note(class, low_bits(self.st.line), range_word(r), lost)
     }
 
     #[tactic(auto, unfolding(crate::specs::Mem::entry_list, crate::specs::Mem::entry_st))]

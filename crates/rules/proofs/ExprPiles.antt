@@ -185,9 +185,9 @@ module _ (E : List Entry) (few : Few E) (t : List ℕ) (base : ℕ) where
   abbrev pub Nothing : List Rec → Type 0
   Nothing xs = xs ≡ []
 
-  warn_code : (b : Bool) (r : Range) (i : Ideal) → Code E 0 i (pick b (R.note i 10 r 2) i) (Unit {0}) Nothing
-  warn_code true r i = warns E i _ _ _ _ _ (λ w. refl)
-  warn_code false r i = stay E i _ _ (λ w. refl)
+  blank_code : (b : Bool) (r : Range) (n : ℕ) (i : Ideal) → Code E 0 i (pick b (R.note_lost i 10 r 2 n) i) (Unit {0}) Nothing
+  blank_code true r n i = warns E i _ _ _ _ _ _ (λ w. refl)
+  blank_code false r n i = stay E i _ _ (λ w. refl)
 
   -- a symbol's type is that of its name, in the whole book
   pub record Known (n : ℕ) (x : Ty) (xs : List Rec) : Type 0 where
@@ -200,8 +200,8 @@ module _ (E : List Entry) (few : Few E) (t : List ℕ) (base : ℕ) where
   sym_code r i =
       let n = read_name t base r in
       let u = get_or t (text_place base r.end - 1) 0 in
-      let j = pick (ltb 0 n.lost) (R.note i 10 r 2) i in
-      seq E {d₁ = 0} {d₂ = 1} {W₁ = Unit {0}} {W₂ = Unit {0}} {A = Nothing} (warn_code (ltb 0 n.lost) r i) (symbol_code E few t j n.name.start n.name.len n.name.sigil) (λ w. w) (λ w. w)
+      let j = pick (ltb 0 n.lost) (R.note_lost i 10 r 2 n.lost) i in
+      seq E {d₁ = 0} {d₂ = 1} {W₁ = Unit {0}} {W₂ = Unit {0}} {A = Nothing} (blank_code (ltb 0 n.lost) r n.lost i) (symbol_code E few t j n.name.start n.name.len n.name.sigil) (λ w. w) (λ w. w)
       (λ xs ys a b. record { none = rw (a, b.0); type = b.1 ∙ sigil_back u; proper = sigil_proper u })
 
   -- an expression of kind x

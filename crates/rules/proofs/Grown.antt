@@ -3,7 +3,7 @@
 use Rattle.std.proofs.Common.{◌≡◌, ℕ, suc, ◌+◌, ◌*◌, ◌≤◌, Bool, true, false, List, [], ◌∷◌, ◌++◌, length, sym, refl, ap, ◌∙◌, append_assoc, append-nil, arith, length-append}
 use Rattle.recorder.specs.declared.word.Range.{Range}
 use Rattle.recorder.specs.Word.{pick}
-use Rattle.recorder.specs.Ideal.{Rec, rec, Note, note_of, Entry, name_kind, how_many, Ideal, ideal, change}
+use Rattle.recorder.specs.Ideal.{Rec, rec, Note, lost_note, note_of, Entry, name_kind, how_many, Ideal, ideal, change}
 use Rattle.recorder.proofs.Words.{change_length}
 use Rattle.rules.specs.Demand.{NoError}
 use Rattle.rules.proofs.PileLaws.{all_left, all_right}
@@ -133,13 +133,13 @@ module _ (E : List Entry) where
     ok = λ w e p. absurd (omega (arith, e.0));
   }
 
-  pub warns : (i : Ideal) (k l : ℕ) (r : Range) (W : Type 0) (Ok : List Rec → Type 0) → (W → Ok [])
-      → Code E 0 i (ideal i.records (i.notes ++ (note_of k l r 2 ∷ [])) i.entries i.line i.first_datum) W Ok
+  pub warns : (i : Ideal) (k l : ℕ) (r : Range) (n : ℕ) (W : Type 0) (Ok : List Rec → Type 0) → (W → Ok [])
+      → Code E 0 i (ideal i.records (i.notes ++ (lost_note k l r 2 n ∷ [])) i.entries i.line i.first_datum) W Ok
   unfolding how_many
-  warns i k l r W Ok h = record {
+  warns i k l r n W Ok h = record {
     code = [];
     records = sym (append-nil i.records);
-    fresh = note_of k l r 2 ∷ [];
+    fresh = lost_note k l r 2 n ∷ [];
     notes = refl;
     book = [];
     entries = sym (append-nil i.entries);

@@ -17,6 +17,7 @@ use Rattle.rules.specs.Writes.{is_write_call}
 pub record Keeps {S : Type 0} (R : Recorder S) (P : S → Type 0) : Type 0 where
   pub emit : (s : S) (k : ℕ) (r : Range) (a b c : ℕ) → is_write_call k ≡ false → P s → P (R.emit s k r a b c)
   pub note : (s : S) (k : ℕ) (r : Range) (v : ℕ) → P s → P (R.note s k r v)
+  pub note_lost : (s : S) (k : ℕ) (r : Range) (v n : ℕ) → P s → P (R.note_lost s k r v n)
   pub symbol : (s : S) (x n g : ℕ) → P s → P (R.symbol s x n g).state
   pub datum : (s : S) (x n q : ℕ) → P s → P (R.datum s x n q)
   pub byte : (s : S) (x n v : ℕ) → P s → P (R.byte s x n v)
@@ -40,7 +41,7 @@ module _ {S : Type 0} {R : Recorder S} {P : S → Type 0} (κ : Keeps R P) (t : 
   -- names, and notes about kinds
   keep_sym : {s : S} (r : Range) → P s → P (compile_sym R t base r s).state
   unfolding compile_sym
-  keep_sym r p = κ.symbol _ _ _ _ (pick_kept (ltb 0 (read_name t base r).lost) (noted p) p)
+  keep_sym r p = κ.symbol _ _ _ _ (pick_kept (ltb 0 (read_name t base r).lost) (κ.note_lost _ _ _ _ _ p) p)
 
   keep_check : {s : S} (want : Ty) (r : Range) (x : Ty) → P s → P (check_type R t base want r x s)
   unfolding check_type

@@ -73,6 +73,9 @@ module _ {S T : Type 0} {R : Recorder S} {Q : Recorder T} {σ : Simulation R Q} 
   pub noted : {w u : T} {s : S} {k : ℕ} {r : Range} {v : ℕ} → Follows σ w s u → Follows σ w (R.note s k r v) (Q.note u k r v)
   noted g = record { sim = σ.note _ _ _ _ _ g.sim; later = σ.later_trans _ _ _ g.later (σ.note_later_lem _ _ _ _) }
 
+  lost_noted : {w u : T} {s : S} {k : ℕ} {r : Range} {v n : ℕ} → Follows σ w s u → Follows σ w (R.note_lost s k r v n) (Q.note_lost u k r v n)
+  lost_noted g = record { sim = σ.note_lost _ _ _ _ _ _ g.sim; later = σ.later_trans _ _ _ g.later (σ.note_lost_later _ _ _ _ _) }
+
   -- the same branch on both sides
   pub pick_follows : {w u u' : T} {s s' : S} (b : Bool) → Follows σ w s u → Follows σ w s' u' → Follows σ w (pick b s s') (pick b u u')
   pick_follows true g h = g
@@ -107,7 +110,7 @@ module _ {S T : Type 0} {R : Recorder S} {Q : Recorder T} (σ : Simulation R Q) 
   pub sim_sym : {w u : T} {s : S} (r : Range) → Follows σ w s u → FollowsSym σ w (compile_sym R t base r s) (compile_sym Q t base r u)
   unfolding compile_sym
   sim_sym r g =
-      let h = pick_follows (ltb 0 (read_name t base r).lost) (noted g) g in
+      let h = pick_follows (ltb 0 (read_name t base r).lost) (lost_noted g) g in
       record {
         follows = record { sim = σ.symbol _ _ _ _ _ (name_sigil t base r) h.sim; later = σ.later_trans _ _ _ h.later (σ.symbol_later _ _ _ _) };
         number = σ.symbol_number_lem _ _ _ _ _ (name_sigil t base r) h.sim;

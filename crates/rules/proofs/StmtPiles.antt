@@ -717,7 +717,7 @@ module _ (E : List Entry) (few : Few E) (t : List ℕ) (base : ℕ) where
       go false false q =
           one_of_two E {W = W} {A = λ xs. Plain E xs (below n) (below n)} (matches_type p.ty Real) er (R.note p.state value_dropped er 2) 46 47 0 0 0
           (put E {d = 0} {W = W} {A = Typ p.ty} {C = λ xs. Plain E xs (below n) (below n)}
-          (seq E {d₁ = 0} {d₂ = 0} {W₂ = Unit {0}} {W = W} {A = Typ p.ty} {B = Nothing} {C = Typ p.ty} a (warns E p.state 11 p.state.line er (Unit {0}) Nothing (λ w. refl)) (λ w. w) (λ w. tt) (λ xs ys u v. rw (v, append-nil xs) u))
+          (seq E {d₁ = 0} {d₂ = 0} {W₂ = Unit {0}} {W = W} {A = Typ p.ty} {B = Nothing} {C = Typ p.ty} a (warns E p.state 11 p.state.line er 0 (Unit {0}) Nothing (λ w. refl)) (λ w. w) (λ w. tt) (λ xs ys u v. rw (v, append-nil xs) u))
           (omega arith) (rec (pick (matches_type p.ty Real) 46 47) p.state.line er 0 0 0)
           (λ xs u. flow_append (u.flow (below n)) (pop_step p.state.line er p.ty (below n) u.proper)))
 

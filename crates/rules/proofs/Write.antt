@@ -39,6 +39,7 @@ unfolding symbol_of
 kept t w = record {
   emit = λ i k r a b c h e. no_write_last i.records (rec k i.line r a b c) h ∙ e;
   note = λ i k r v e. e;
+  note_lost = λ i k r v n e. e;
   symbol = λ i x n g e. symbol_calls (find_name t i.entries x n g) i x n g ∙ e;
   datum = λ i x n q e. e;
   byte = λ i x n v e. e;

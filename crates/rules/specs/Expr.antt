@@ -68,12 +68,12 @@ module _ {S : Type 0} (R : Recorder S) (t : List ℕ) (base : ℕ) where
   abbrev pub add_warning : ℕ → Range → S → S
   add_warning class r s = R.note s class r warning_note
 
-  -- a name: "10 blank in name (warning)", then its symbol
+  -- a name: "10 blank in name (warning)", with "the number of units left out", then its symbol
   abbrev pub sym_of : Ty → Named S → Sym S
   sym_of ty n = record { state = n.state; number = n.number; ty = ty }
 
   abbrev pub blank_note : ℕ → Range → S → S
-  blank_note lost r s = pick (nat_lt 0 lost) (add_warning blank_in_name r s) s
+  blank_note lost r s = pick (nat_lt 0 lost) (R.note_lost s blank_in_name r warning_note lost) s
 
   abbrev pub named_sym : Name → Range → S → Sym S
   named_sym n r s = sym_of n.ty (R.symbol (blank_note n.lost r s) n.name.start n.name.len n.name.sigil)

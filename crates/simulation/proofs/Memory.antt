@@ -19,7 +19,7 @@ use Rattle.simulation.proofs.Simulation.{Simulation}
 use Rattle.simulation.proofs.Tree.{Tree}
 use Rattle.simulation.proofs.Book.{bares, all_small}
 use Rattle.simulation.specs.Held.{Held}
-use Rattle.simulation.proofs.Sim.{Sim, Later, Fits, Room, held_count, held_fits, same_length, unlinked_exact, listed_look, list_full_lem, book_full_lem, count_is, first_word, sim_line, sim_emit, sim_note_at, sim_note, sim_datum, sim_byte, sim_symbol, sim_symbol_number, sim_patch, sim_patch_end, sim_settle, sim_settle_number, sim_drop_label}
+use Rattle.simulation.proofs.Sim.{Sim, Later, Fits, Room, held_count, held_fits, same_length, unlinked_exact, listed_look, list_full_lem, book_full_lem, count_is, first_word, sim_line, sim_emit, sim_note_at, sim_note_lost, sim_note, sim_datum, sim_byte, sim_symbol, sim_symbol_number, sim_patch, sim_patch_end, sim_settle, sim_settle_number, sim_drop_label}
 use Rattle.simulation.proofs.Delays.{Holds}
 use Rattle.simulation.proofs.WhileWords.{Opened}
 use Rattle.simulation.proofs.Clean.{Done, hide_notes, same_records, whiles_are, clean_done}
@@ -112,6 +112,8 @@ module _ (L N B : ℕ) (t : List ℕ) where
     count = λ i m s e. count_is s e;
     note = (sim_note L N B t clean_up);
     note_later_lem = λ m k r v. note_stays m.notes m.st;
+    note_lost = (sim_note_lost L N B t clean_up);
+    note_lost_later = λ m k r v n. note_stays m.notes m.st;
     note_at = (sim_note_at L N B t clean_up);
     note_at_later = λ m l k r v. note_stays m.notes m.st;
     symbol = (sim_symbol L N B t clean_up);

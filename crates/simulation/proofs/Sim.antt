@@ -14,9 +14,9 @@ use Rattle.recorder.specs.declared.word.Range.{Range}
 use Rattle.recorder.specs.declared.label.DatumIndex.{DatumIndex}
 use Rattle.recorder.specs.Word.{pick, kind, payload_at, word_of, range_word}
 use Rattle.recorder.specs.Optional.{plus_one}
-use Rattle.recorder.specs.Ideal.{Rec, rec, note_of, Entry, entry, Ideal, ideal, ideal_r, how_many, next_number, added, Search, missing, found, find_name, symbol_in, symbol_of, change, with_a, with_c, settled, unlabelled, no_rec, look_of, first_of}
+use Rattle.recorder.specs.Ideal.{Rec, rec, lost_note, Entry, entry, Ideal, ideal, ideal_r, how_many, next_number, added, Search, missing, found, find_name, symbol_in, symbol_of, change, with_a, with_c, settled, unlabelled, no_rec, look_of, first_of}
 use Rattle.recorder.specs.Layout.{rec_words, note_words, entry_words, words_of, fill, most_records}
-use Rattle.recorder.specs.Mem.{Mem, mem, mem_r, records_in, line_in, datum_word, first_in, list_full, book_full, as_word, low, more, put_list, four, note_list, entry_list, sigil_code, hash_of, name_tag, with_link, known, descent_to, entry_of, linked, root_of, unlink_from, unlinked, symbol_number, symbol_list, symbol_st, datum_list, datum_st, byte_list, byte_st, part, at_rec, on_rec, set_a, set_c, settle_args, clear_args, rec_of, look_at}
+use Rattle.recorder.specs.Mem.{Mem, mem, mem_r, put_note, records_in, line_in, datum_word, first_in, list_full, book_full, as_word, low, more, put_list, four, note_list, entry_list, sigil_code, hash_of, name_tag, with_link, known, descent_to, entry_of, linked, root_of, unlink_from, unlinked, symbol_number, symbol_list, symbol_st, datum_list, datum_st, byte_list, byte_st, part, at_rec, on_rec, set_a, set_c, settle_args, clear_args, rec_of, look_at}
 use Rattle.recorder.proofs.Words.{head_kind, length_snoc, put5, put4, words_snoc, length_words4, length_words, change_length, change_out, change_words, cut_rec, rec_of_lem}
 use Rattle.recorder.proofs.Bools.{true_not_false}
 use Rattle.simulation.specs.Held.{Held, Exact}
@@ -610,13 +610,15 @@ module _ (L N B : ℕ) (t : List ℕ) (clean : Ideal → Ideal) where
         whole = fresh_snoc i.records (rec k i.line r a b c) s.whole w;
       }
 
-  pub sim_note_at : (i : Ideal) (m : Mem) (l l' k : ℕ) (r : Range) (v : ℕ) → SameLine l l' → Sim t L N B i m → Sim t L N B ((ideal_r t clean).note_at i l k r v) ((mem_r t).note_at m l' k r v)
+  -- a note, whatever its last word
+  sim_put_note : (i : Ideal) (m : Mem) (l l' k : ℕ) (r : Range) (v n : ℕ) → SameLine l l' → Sim t L N B i m
+      → Sim t L N B (ideal i.records (i.notes ++ (lost_note k l r v n ∷ [])) i.entries i.line i.first_datum) (put_note m (word_of k l') (range_word r) v n)
   unfolding note_list
-  sim_note_at i m l l' k r v e s = record {
+  sim_put_note i m l l' k r v n e s = record {
     st = note_in m.notes s.st;
     is = rw s.is (note_form m.notes s.st);
     listed = s.listed;
-    noted = rw (s.is, same_head k l l' e) (exact_put note_words (λ x. refl) N i.notes m.notes s.st.notes s.st.notes_full (note_of k l r v) (word_of k l) (range_word r) v 0 refl s.noted);
+    noted = rw (s.is, same_head k l l' e) (exact_put note_words (λ x. refl) N i.notes m.notes s.st.notes s.st.notes_full (lost_note k l r v n) (word_of k l) (range_word r) v n refl s.noted);
     booked = s.booked;
     line = s.line;
     first_none = s.first_none;
@@ -625,8 +627,14 @@ module _ (L N B : ℕ) (t : List ℕ) (clean : Ideal → Ideal) where
     whole = s.whole;
   }
 
+  pub sim_note_at : (i : Ideal) (m : Mem) (l l' k : ℕ) (r : Range) (v : ℕ) → SameLine l l' → Sim t L N B i m → Sim t L N B ((ideal_r t clean).note_at i l k r v) ((mem_r t).note_at m l' k r v)
+  sim_note_at i m l l' k r v e s = sim_put_note i m l l' k r v 0 e s
+
+  pub sim_note_lost : (i : Ideal) (m : Mem) (k : ℕ) (r : Range) (v n : ℕ) → Sim t L N B i m → Sim t L N B ((ideal_r t clean).note_lost i k r v n) ((mem_r t).note_lost m k r v n)
+  sim_note_lost i m k r v n s = sim_put_note i m i.line (line_in m.st) k r v n (ap (λ (z : ℕ). z % 16777216) (rw s.is s.line)) s
+
   pub sim_note : (i : Ideal) (m : Mem) (k : ℕ) (r : Range) (v : ℕ) → Sim t L N B i m → Sim t L N B ((ideal_r t clean).note i k r v) ((mem_r t).note m k r v)
-  sim_note i m k r v s = sim_note_at i m i.line (line_in m.st) k r v (ap (λ (z : ℕ). z % 16777216) (rw s.is s.line)) s
+  sim_note i m k r v s = sim_note_lost i m k r v 0 s
 
   pub sim_datum : (i : Ideal) (m : Mem) (x n q : ℕ) → Sim t L N B i m → Sim t L N B ((ideal_r t clean).datum i x n q) ((mem_r t).datum m x n q)
   unfolding datum_list datum_st

@@ -55,6 +55,8 @@ pub record Simulation {S T : Type 0} (R : Recorder S) (Q : Recorder T) : Type 1 
   pub count : (s : S) (t : T) → Sim s t → Place t (R.count s) (Q.count t)
   pub note : (s : S) (t : T) (k : ℕ) (r : Range) (v : ℕ) → Sim s t → Sim (R.note s k r v) (Q.note t k r v)
   pub note_later_lem : (t : T) (k : ℕ) (r : Range) (v : ℕ) → Later t (Q.note t k r v)
+  pub note_lost : (s : S) (t : T) (k : ℕ) (r : Range) (v n : ℕ) → Sim s t → Sim (R.note_lost s k r v n) (Q.note_lost t k r v n)
+  pub note_lost_later : (t : T) (k : ℕ) (r : Range) (v n : ℕ) → Later t (Q.note_lost t k r v n)
   pub note_at : (s : S) (t : T) (l l' k : ℕ) (r : Range) (v : ℕ) → SameLine l l' → Sim s t → Sim (R.note_at s l k r v) (Q.note_at t l' k r v)
   pub note_at_later : (t : T) (l k : ℕ) (r : Range) (v : ℕ) → Later t (Q.note_at t l k r v)
   -- a name whose sigil is one
