@@ -28,39 +28,36 @@ pub fn exprs_form(form: &LineForm, left: usize, at: usize) -> Walk
 // An expression, with so many depths left, its own among them.
 #[cycle(form_cycle)]
 #[tactic(auto, unfolding(sheet::specs::Form::fields_form, sheet::specs::Form::item_form), using(sheet::proofs::Cases::fields_rule, crate::proofs::Fields::expr_is, crate::proofs::Fields::expr_deep, crate::proofs::Fields::one_is, crate::proofs::Fields::last_is))]
-pub fn expr_form(form: &LineForm, left: usize, at: usize) -> Walk
+pub fn expr_form(form: &LineForm, mut left: usize, mut at: usize) -> Walk
     ensures { result ≡ node_in form.now left Sort.Expr at }
 {
-    let h = head_form(form.sheet, Sort::Expr, at)?;
-    if left == 0 {
-        return Err(Offence::TooDeep(at));
-    }
-    let k = payload_at(form.sheet, at);
-    let q = own_form(form, k, h)?;
-    match ExprKind::of(k) {
-        ExprKind::NumberLit => number_form(form.sheet, q),
-        ExprKind::SysFuncCall => {
-            let p = operator_form(form, FUNCTIONS, q)?;
-            exprs_form(form, left - 1, p)
+    loop {
+        let h = head_form(form.sheet, Sort::Expr, at)?;
+        if left == 0 {
+            return Err(Offence::TooDeep(at));
         }
-        ExprKind::UserFuncCall => {
-            let p = form.optional_name_form(q)?;
-            expr_form(form, left - 1, p)
-        }
-        ExprKind::Binary => {
-            let p = expr_form(form, left - 1, q)?;
-            let o = operator_form(form, BINARY_OPS, p)?;
-            expr_form(form, left - 1, o)
-        }
-        ExprKind::Unary => {
-            let p = operator_form(form, 3, q)?;
-            expr_form(form, left - 1, p)
-        }
-        ExprKind::Index => {
-            let p = form.optional_name_form(q)?;
-            exprs_form(form, left - 1, p)
-        }
-        _ => Ok(q),
+        let k = payload_at(form.sheet, at);
+        let q = own_form(form, k, h)?;
+        // Where the last part is an expression, the next turn reads it: a Result goes through memory when it is given back.
+        at = match ExprKind::of(k) {
+            ExprKind::NumberLit => return number_form(form.sheet, q),
+            ExprKind::SysFuncCall => {
+                let p = operator_form(form, FUNCTIONS, q)?;
+                return exprs_form(form, left - 1, p);
+            }
+            ExprKind::UserFuncCall => form.optional_name_form(q)?,
+            ExprKind::Binary => {
+                let p = expr_form(form, left - 1, q)?;
+                operator_form(form, BINARY_OPS, p)?
+            }
+            ExprKind::Unary => operator_form(form, 3, q)?,
+            ExprKind::Index => {
+                let p = form.optional_name_form(q)?;
+                return exprs_form(form, left - 1, p);
+            }
+            _ => return Ok(q),
+        };
+        left -= 1;
     }
 }
 

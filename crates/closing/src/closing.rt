@@ -377,7 +377,7 @@ fn unlink_at(book: &mut [u32], k: usize)
 
 // The book as document 01 has it: the names have no tags and are in no tree any more. The book is not cut to the known entries: the
 // clause says, too, that what stands behind them stays.
-fn unlink_names(book: &mut [u32], known: usize)
+pub fn unlink_names(book: &mut [u32], known: usize)
     ensures { book.new ≡ unlink_from book.old 0 known }
 {
     for k in 0..known {

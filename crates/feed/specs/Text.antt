@@ -1,5 +1,5 @@
 -- What the programs print.
-use Rattle.std.specs.Prelude.{ℕ, List, [], ◌∷◌, ◌++◌, ◌/◌, length, take}
+use Rattle.std.specs.Prelude.{ℕ, zero, suc, List, [], ◌∷◌, ◌++◌, ◌/◌, if◌then◌else◌, length, take, drop, nat_lt}
 use Rattle.std.specs.List.{flat_map}
 use Rattle.std.specs.Fmt.{decimal}
 use Rattle.std.specs.Simd.{first_chunks}
@@ -23,3 +23,9 @@ rows_text mark rows count = flat_map (λ row. line_of (row_text mark row)) (take
 -- words in rows of that size
 abbrev pub rows_of : ℕ → List ℕ → List (List ℕ)
 rows_of size words = first_chunks size (length words / size) words
+
+-- so many rows of that size, each on a line, up to the first for which fewer words are left
+abbrev pub rows_from : List ℕ → List ℕ → ℕ → ℕ → List ℕ
+rows_from mark words size zero = []
+rows_from mark words size (suc n) =
+    if nat_lt (length words) size then [] else line_of (row_text mark (take size words)) ++ rows_from mark (drop size words) size n

@@ -10,7 +10,7 @@ ghost use Rattle.std.specs.List.{flat_map};
 ghost use Rattle.std.proofs.Common.{lit≤};
 ghost use Rattle.feed.specs.declared.TheConstants.{WIDEST};
 ghost use Rattle.feed.specs.Format.{counts_bytes, input_bytes};
-ghost use Rattle.feed.specs.Text.{row_text, rows_text};
+ghost use Rattle.feed.specs.Text.{row_text, rows_from, rows_text};
 
 use std::io::ErrorKind;
 use std::{fmt, io};
@@ -221,7 +221,7 @@ impl fmt::Display for Row<'_> {
 
 /// So many of the rows, each on a line. The count is cut here, once for three calls: an answer's type does not say that its counts
 /// are within the buffers.
-pub fn print_rows<const SIZE: usize, W: io::Write>(
+pub fn print_chunks<const SIZE: usize, W: io::Write>(
     out: &mut W,
     mark: &str,
     rows: &[[u32; SIZE]],
@@ -233,6 +233,31 @@ pub fn print_rows<const SIZE: usize, W: io::Write>(
     let rows = &rows[..count.min(rows.len())];
     for numbers in rows {
         writeln!(out, "{}", Row { mark, numbers })?;
+    }
+    Ok(())
+}
+
+/// So many rows of that size, from the front of the words, each on a line. It stops without an error at the first row for which
+/// fewer words are left. The mark need not be text, so it is written before the row.
+pub fn print_rows<W: io::Write>(
+    out: &mut W,
+    mark: &[u8],
+    words: &[u32],
+    size: usize,
+    count: usize,
+) -> io::Result<()>
+    ensures { OnOk result (Appends (W.contents out.old) (W.contents out.new)
+        (rows_from mark.now words.now size count)) }
+{
+    let mut rest = words;
+    for _i in 0..count {
+        if rest.len() < size {
+            return Ok(());
+        }
+        let (numbers, others) = rest.split_at(size);
+        out.write_all(mark)?;
+        writeln!(out, "{}", Row { mark: "", numbers })?;
+        rest = others;
     }
     Ok(())
 }

@@ -5,6 +5,8 @@ ghost use Rattle.std.specs.Prelude.{◌++◌, OnOk};
 ghost use Rattle.std.specs.Fmt.{decimal};
 ghost use Rattle.std.specs.Io.KnownBytes.{Appends};
 ghost use Rattle.feed.specs.Text.{line_of, next_text};
+ghost use Rattle.sheet.specs.Check.{checked};
+ghost use Rattle.sheet.specs.CheckAnswer.{answer_number, answer_place};
 
 use feed::Input;
 use std::io;
@@ -20,7 +22,11 @@ fn print_refusal<W: Write>(out: &mut W, number: u32, place: usize) -> io::Result
 }
 
 // Prints the answer to an input.
-fn answer<W: Write>(out: &mut W, input: Input<'_>) -> io::Result<()> {
+fn answer<W: Write>(out: &mut W, input: Input<'_>) -> io::Result<()>
+    ensures { OnOk result (Appends (W.contents out.old) (W.contents out.new)
+        (line_of (decimal (answer_number (checked input.entry.words.now input.entry.units.now input.entry.counts.work))
+        ++ next_text (answer_place (checked input.entry.words.now input.entry.units.now input.entry.counts.work))))) }
+{
     match acceptance::check(input.words, input.units, input.counts.work as usize) {
         Ok(()) => print_refusal(out, 0, 0),
         Err(refusal) => print_refusal(out, refusal.number(), refusal.place()),

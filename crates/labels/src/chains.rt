@@ -7,11 +7,34 @@ ghost use Rattle.recorder.specs.Ideal.{missing};
 ghost use Rattle.recorder.specs.Marks.{Mark, addr_of, data_of, datum_from};
 ghost use Rattle.labels.specs.MarkWords.{marked_lines, target_found, start_found};
 ghost use Rattle.labels.specs.MarksIn.{MarksIn};
-ghost use Rattle.labels.specs.Chains.{line_of, label_of, last_in, chain_count};
+ghost use Rattle.labels.specs.Chains.{Chained, line_of, label_of, last_in, chain_count};
 
 use recorder::label::{Addr, DatumIndex, Label};
 use recorder::number::LABEL_SIZE;
 use recorder::word::word_at;
+
+// Every line becomes the head of its chain, in order, and keeps the one that was, as a link above its label. The heads stand
+// in the words that the lines leave free. n stays beside work, as in put_mark. Returns how many chains there are.
+#[tactic(auto, using(crate::proofs::MarkLaws::index_start))]
+pub fn put_in_chains(work: &mut [u32], n: usize) -> usize
+    ensures count { result ≡ chain_count (marked_lines work.old n) (length work.old) }
+    ensures chained { (ms : List Mark) → MarksIn work.old n ms → Chained work.new n result n ms }
+{
+    let lines = n.min(work.len() / 3);
+    let from = 3 * lines;
+    let chains = (lines / 15 * 30 + 31).min(work.len() - from);
+    if chains != 0 {
+        for k in 0..lines {
+            let at = 3 * k;
+            let label = work[at] % LABEL_SIZE;
+            let head = from + label as usize % chains;
+            let link = work[head] % LABEL_SIZE;
+            work[at] = label + LABEL_SIZE * link;
+            work[head] = (k % LABEL_SIZE as usize) as u32 + 1;
+        }
+    }
+    chains
+}
 
 // The labelled lines in chains: the words that they stand in, how many lines and how many chains there are. Which marks the words hold
 // (Indexed) is no ghost field: index_lines takes any words, and the searches' clauses name the marks.
@@ -26,30 +49,30 @@ pub struct Chains<'a> {
 impl<'a> Chains<'a> {
     ghost use Rattle.labels.specs.Indexed.{Indexed};
 
-    // Every line becomes the head of its chain, in order, and keeps the one that was, as a link above its label. The heads stand
-    // in the words that the lines leave free. n stays beside work, as in put_mark.
-    #[tactic(auto, using(crate::proofs::MarkLaws::index_start))]
-    pub fn index_lines(work: &'a mut [u32], n: usize) -> Chains<'a>
-        ensures { (result.chains ≡ chain_count (marked_lines work.old n) (length work.old)) × ((ms : List Mark) → MarksIn work.old n ms → Indexed result ms) }
+    // The chains that words hold, as put_in_chains leaves them: where there is no room for so many lines or chains, none are looked at.
+    pub fn of(work: &'a [u32], n: usize, chains: usize) -> Chains<'a>
+        ensures chains { 3 * marked_lines work.now n + chains ≤ length work.now → result.chains ≡ chains }
+        ensures indexed { (ms : List Mark) → Chained work.now n chains n ms → Indexed result ms }
     {
         let lines = n.min(work.len() / 3);
-        let from = 3 * lines;
-        let chains = (lines / 15 * 30 + 31).min(work.len() - from);
-        if chains != 0 {
-            for k in 0..lines {
-                let at = 3 * k;
-                let label = work[at] % LABEL_SIZE;
-                let head = from + label as usize % chains;
-                let link = work[head] % LABEL_SIZE;
-                work[at] = label + LABEL_SIZE * link;
-                work[head] = (k % LABEL_SIZE as usize) as u32 + 1;
-            }
-        }
+        let chains = if chains <= work.len() - 3 * lines {
+            chains
+        } else {
+            0
+        };
         Chains {
             work,
             lines,
             chains,
         }
+    }
+
+    // The n lines that stand in the words are put into chains.
+    pub fn index_lines(work: &'a mut [u32], n: usize) -> Chains<'a>
+        ensures { (result.chains ≡ chain_count (marked_lines work.old n) (length work.old)) × ((ms : List Mark) → MarksIn work.old n ms → Indexed result ms) }
+    {
+        let chains = put_in_chains(work, n);
+        Chains::of(work, n, chains)
     }
 
     // The i-th word of a line.

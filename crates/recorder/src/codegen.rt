@@ -396,7 +396,7 @@ impl CodeGen<'_> {
     // A record: its call, the current line, its range, three arguments. Four numbers and no Numbers: a struct goes through memory when
     // it is passed (docs/DECISIONS.md, 38), and every record passes here.
     #[tactic(auto, unfolding(crate::specs::Mem::put_list, crate::specs::Mem::put_st))]
-    fn put(&mut self, r: Range, call: u8, a: u32, b: u32, c: u32)
+    pub fn put(&mut self, r: Range, call: u8, a: u32, b: u32, c: u32)
         ensures same { SameLoans self.old self.new }
         ensures value { mem_of self.new ≡ put (mem_of self.old) call r a b c }
     {
@@ -426,19 +426,28 @@ impl CodeGen<'_> {
         self.put(r, n.call, n.a, n.b, n.c)
     }
 
-    // A note, its range as a word. put_entry differs in three fields: one function for both would be lent buffer, count and flag.
+    // A note of any head, range and severity, each a word. put_entry differs in three fields: one function for both would be lent
+    // buffer, count and flag.
     #[tactic(auto, unfolding(crate::specs::Mem::note_list, crate::specs::Mem::note_st))]
-    pub fn put_note(&mut self, class: Class, line: u32, w: u32, lost: u32)
+    pub fn put_note_words(&mut self, h: u32, w: u32, severity: u32, lost: u32)
         ensures same { SameLoans self.old self.new }
-        ensures value { mem_of self.new ≡ put_note (mem_of self.old) (word_of (class_number class) line) w (severity_of class) lost }
+        ensures value { mem_of self.new ≡ put_note (mem_of self.old) h w severity lost }
     {
         let n = self.st.notes;
-        let h = word_of(class.number(), line);
-        if put_four(self.notes, n, h, w, class.severity(), lost) {
+        if put_four(self.notes, n, h, w, severity, lost) {
             self.st.notes = n + 1;
         } else {
             self.st.notes_full = true;
         }
+    }
+
+    // A note of a class, its range as a word.
+    pub fn put_note(&mut self, class: Class, line: u32, w: u32, lost: u32)
+        ensures same { SameLoans self.old self.new }
+        ensures value { mem_of self.new ≡ put_note (mem_of self.old) (word_of (class_number class) line) w (severity_of class) lost }
+    {
+        let h = word_of(class.number(), line);
+        self.put_note_words(h, w, class.severity(), lost)
     }
 
     // A note on the current line.

@@ -77,9 +77,9 @@ fn print_answer<W: Write>(
     match answer {
         Ok(sizes) => {
             print_counts(out, 0, 0, &sizes)?;
-            feed::print_rows(out, "r", list.as_chunks::<5>().0, sizes.records as usize)?;
-            feed::print_rows(out, "n", notes.as_chunks::<4>().0, sizes.notes)?;
-            feed::print_rows(out, "b", book.as_chunks::<4>().0, sizes.entries)
+            feed::print_chunks(out, "r", list.as_chunks::<5>().0, sizes.records as usize)?;
+            feed::print_chunks(out, "n", notes.as_chunks::<4>().0, sizes.notes)?;
+            feed::print_chunks(out, "b", book.as_chunks::<4>().0, sizes.entries)
         }
         Err(refusal) => {
             let none = Sizes::default();

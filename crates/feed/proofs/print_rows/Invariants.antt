@@ -1,9 +1,10 @@
-use Rattle.std.proofs.Common.{take}
+use Rattle.std.proofs.Common.{◌-◌, List, Option, ℕ}
 use Rattle.std.specs.Io.KnownBytes.{Appends}
-use Rattle.std.specs.List.{flat_map}
-use Rattle.feed.specs.Text.{line_of, row_text}
+use Rattle.feed.specs.Text.{rows_from}
 use Rattle.feed.proofs.print_rows.Given as goal
 
-abbrev pub invariant-loop-numbers : goal.invariant-loop-numbers
-invariant-loop-numbers g l =
-    Appends (g.W.Write.contents l.initial.out) (g.W.Write.contents l.out) (flat_map (λ row. line_of (row_text l.mark row)) (take l.numbers-index l.rows))
+-- once the rows of the rest are written too, all are
+abbrev pub invariant-loop-i : goal.invariant-loop-i
+invariant-loop-i g l =
+    (end : Option (List ℕ)) → Appends (g.W.Write.contents l.out) end (rows_from l.mark l.rest l.size (l.count - l._i))
+    → Appends (g.W.Write.contents l.initial.out) end (rows_from l.mark l.words l.size l.count)
